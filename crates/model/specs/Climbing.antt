@@ -1,0 +1,80 @@
+-- Document 01, "Climbing from a record to its parent", "above", "container", "active", "hidden".
+use Prim.Native.Nat.{suc, zero, ℕ}
+use lib.ListN.{length}
+use mathlib.Core.Bool.{Bool, _&&_, false, true}
+use mathlib.Core.List.{List}
+use Rattle.model.specs.Records.{at, isAmbient, parentOf}
+use Rattle.model.specs.declared.Rec.{Rec}
+
+-- "Above" means reached by climbing, the record itself not counted: the record k + 1 climbs from i stands above i
+abbrev pub climb : (ℕ → ℕ) → ℕ → ℕ → ℕ
+climb parent zero i = i
+climb parent (suc k) i = climb parent k (parent i)
+
+-- What is found by climbing: the environment has the value top, a record makes its own from its parent's,
+-- and lost stands where the climbs run out
+pub record View (A : Type 0) : Type 0 where
+  pub top : A
+  pub lost : A
+  pub make : Rec → A → A
+
+-- the value at number i, with at most n climbs
+unfoldable pub viewFrom : {A : Type 0} → View A → List Rec → ℕ → ℕ → A
+viewFrom v its zero zero = v .top
+viewFrom v its zero (suc i) = v .lost
+viewFrom v its (suc n) zero = v .top
+viewFrom v its (suc n) (suc i) = v .make (at its (suc i)) (viewFrom v its n (parentOf its (suc i)))
+
+-- the value at number i: one climb more than there are records serves numbers over the count too
+unfoldable pub view : {A : Type 0} → View A → List Rec → ℕ → A
+view v its i = viewFrom v its (suc (length its)) i
+
+abbrev pub reaching : View Bool
+reaching = record { top = true; lost = false; make = λ r x. x }
+
+-- "Climbing from a record to its parent, as often as there are records, must reach 0."
+unfoldable pub reaches : List Rec → ℕ → Bool
+reaches its i = viewFrom reaching its (length its) i
+
+-- the label of an ambient, and otherwise what is above
+unfoldable pub labelled : Rec → ℕ → ℕ
+labelled r x = elim (isAmbient r) [ true ↦ r .label | false ↦ x ]
+
+abbrev pub nesting : View ℕ
+nesting = record { top = 0; lost = 0; make = labelled }
+
+-- the label of the nearest ambient from number i on upwards, or 0
+abbrev pub nearest : List Rec → ℕ → ℕ
+nearest its i = view nesting its i
+
+-- 01's "container" of a record: "the label of the nearest ambient above it, or 0"
+abbrev pub container : List Rec → ℕ → ℕ
+container its i = nearest its (parentOf its i)
+
+unfoldable pub ambientAnd : Rec → Bool → Bool
+ambientAnd r x = elim (isAmbient r) [ true ↦ x | false ↦ false ]
+
+abbrev pub standing : View Bool
+standing = record { top = true; lost = false; make = ambientAnd }
+
+-- number i and all records above it are ambients
+abbrev pub ambients : List Rec → ℕ → Bool
+ambients its i = view standing its i
+
+-- 01's "active": "all records above it are ambients"
+abbrev pub active : List Rec → ℕ → Bool
+active its i = ambients its (parentOf its i)
+
+-- "An ambient is suspect .. as its label is."
+unfoldable pub isSuspect : (ℕ → Bool) → Rec → Bool
+isSuspect S r = isAmbient r && S (r .label)
+
+unfoldable pub hides : (ℕ → Bool) → Rec → Bool → Bool
+hides S r x = elim (isSuspect S r) [ true ↦ true | false ↦ x ]
+
+abbrev pub hiding : (ℕ → Bool) → View Bool
+hiding S = record { top = false; lost = false; make = hides S }
+
+-- 01's "hidden": "it, or a record above it, is an ambient whose label is in S"
+abbrev pub hidden : List Rec → (ℕ → Bool) → ℕ → Bool
+hidden its S i = view (hiding S) its i

@@ -1,0 +1,8 @@
+-- What is proved of the definitions.
+pub mod Finite
+pub mod Forest
+pub mod Updates
+pub mod WellFormed
+pub mod Views
+pub mod Checks
+pub mod Bytes

@@ -1,0 +1,17 @@
+-- The definitions of document 01, in the order to read them; then what is proved of them.
+pub mod Finite
+pub mod Records
+pub mod Climbing
+pub mod Refusals
+pub mod Validity
+pub mod Tables
+pub mod Analysis
+pub mod Least
+pub mod Observer
+pub mod Steps
+pub mod Verdicts
+pub mod Scripts
+pub mod Calls
+pub mod Numbers
+pub mod Noninterference
+pub mod Laws

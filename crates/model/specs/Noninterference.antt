@@ -1,0 +1,90 @@
+-- Demand 3: what is claimed of two itineraries and one list of steps. Its proof is in Laws/Secrecy.
+use Prim.Native.Nat.{_<_, suc, ℕ}
+use lib.ListN.{getD, length, replicate, take}
+use mathlib.Core.Bool.{Bool, false, true}
+use mathlib.Core.List.{List, [], _++_, _∷_}
+use mathlib.Core.Logic.{_≢_}
+use mathlib.Core.Path.{_≡_}
+use Rattle.model.specs.Calls.{runAfter, runAnswers, stepAfter, stepAnswer}
+use Rattle.model.specs.Climbing.{climb}
+use Rattle.model.specs.Observer.{sheetOf}
+use Rattle.model.specs.Records.{at, isAmbient, parentOf, records}
+use Rattle.model.specs.Refusals.{number}
+use Rattle.model.specs.Scripts.{Order, orders, scriptRight}
+use Rattle.model.specs.Tables.{isBoundary, suspects}
+
+-- "singly or in scripts": a single step, or a script run with its script and the length of its answers
+pub data Event : Type 0 where
+  single : (actor partner : ℕ) → Event
+  script : (steps : List ℕ) (room : ℕ) → Event
+
+-- the itinerary after an event, and after a list of events
+unfoldable pub afterEvent : List ℕ → Event → List ℕ
+afterEvent s (single actor partner) = stepAfter s actor partner
+afterEvent s (script steps room) = runAfter s steps (replicate room 0)
+
+unfoldable pub after : List ℕ → List Event → List ℕ
+after s [] = s
+after s (e ∷ es) = after (afterEvent s e) es
+
+unfoldable pub kept : {A : Type 0} → Bool → List A → List A
+kept true xs = xs
+kept false xs = []
+
+-- "A script run stands in it for its steps in order; a run refused with 13 stands for none."
+unfoldable pub stepsOf : Event → List Order
+stepsOf (single actor partner) = record { actor = actor; partner = partner } ∷ []
+stepsOf (script steps room) = kept (scriptRight steps room) (orders steps)
+
+unfoldable pub allSteps : List Event → List Order
+allSteps [] = []
+allSteps (e ∷ es) = stepsOf e ++ allSteps es
+
+-- the answers that an event gave to its steps, and a list of events to theirs
+unfoldable pub givenBy : List ℕ → Event → List ℕ
+givenBy s (single actor partner) = number (stepAnswer s actor partner) ∷ []
+givenBy s (script steps room) = kept (scriptRight steps room) (runAnswers s steps (replicate room 0))
+
+unfoldable pub given : List ℕ → List Event → List ℕ
+given s [] = []
+given s (e ∷ es) = givenBy s e ++ given (afterEvent s e) es
+
+-- the itinerary after single steps
+unfoldable pub afterSteps : List ℕ → List Order → List ℕ
+afterSteps s [] = s
+afterSteps s (m ∷ ms) = afterSteps (stepAfter s (m .actor) (m .partner)) ms
+
+-- the n-th step of the list, counted from 0, and the itinerary just before it
+unfoldable pub stepAt : List Event → ℕ → Order
+stepAt es n = getD (allSteps es) n (record { actor = 0; partner = 0 })
+
+unfoldable pub before : List ℕ → List Event → ℕ → List ℕ
+before s es n = afterSteps s (take n (allSteps es))
+
+-- record j of an itinerary is a boundary ambient
+abbrev pub BoundaryAt : List ℕ → List ℕ → ℕ → Type 0
+BoundaryAt policy s j = (isAmbient (at (records s) j) ≡ true) × (isBoundary policy (at (records s) j .label) ≡ true)
+
+-- a boundary ambient stands above record i
+abbrev pub UnderBoundary : List ℕ → List ℕ → ℕ → Type 0
+UnderBoundary policy s i = (k : ℕ) × BoundaryAt policy s (climb (parentOf (records s)) (suc k) i)
+
+-- "keep every suspect ambient under a boundary"
+abbrev pub SuspectsGuarded : List ℕ → List ℕ → List ℕ → Type 0
+SuspectsGuarded policy table s =
+    (i : ℕ) → isAmbient (at (records s) i) ≡ true → suspects table (at (records s) i .label) ≡ true → UnderBoundary policy s i
+
+-- record i stands on the sheet
+abbrev pub OnSheet : List ℕ → List ℕ → ℕ → Type 0
+OnSheet table s i = at (records (sheetOf s table)) i .kind ≢ 0
+
+-- what a list of events keeps of two itineraries x and y
+pub record Noninterference (policy table x y : List ℕ) (es : List Event) : Type 0 where
+  -- "keep every suspect ambient under a boundary"
+  pub guarded : SuspectsGuarded policy table (after x es)
+  pub guarded′ : SuspectsGuarded policy table (after y es)
+  -- "keep equal sheets byte for byte"
+  pub sheets : sheetOf (after x es) table ≡ sheetOf (after y es) table
+  -- "give equal answers to each step whose actor stood on the sheet"
+  pub answers : (n : ℕ) → n < length (allSteps es) → OnSheet table (before x es n) (stepAt es n .actor) →
+      getD (given x es) n 0 ≡ getD (given y es) n 0

@@ -1,0 +1,72 @@
+-- For each answer enum of the code: 01's number, record and values for each of its cases.
+use Prim.Native.Nat.{ℕ}
+use mathlib.Core.List.{List}
+use Rattle.model.specs.Refusals.{Check, pass, refuse, Answer, done, refused}
+use Rattle.model.specs.Records.{decode}
+use Rattle.model.specs.Validity.{recordCheck}
+use Rattle.model.specs.declared.Rec.{Rec}
+use Rattle.model.specs.declared.Reading.{Reading}
+use Rattle.model.specs.declared.Reading.the-variants as reading
+use Rattle.model.specs.declared.Screen.{Screen}
+use Rattle.model.specs.declared.Screened.{Screened}
+use Rattle.model.specs.declared.Screened.the-variants as screened
+use Rattle.model.specs.declared.Refusal.{Refusal}
+use Rattle.model.specs.declared.Verdict.{Verdict}
+use Rattle.model.specs.declared.Counts.{Counts}
+use Rattle.model.specs.declared.Performed.{Performed}
+use Rattle.model.specs.declared.Performed.the-variants as performed
+use Rattle.model.specs.declared.Validated.{Validated}
+use Rattle.model.specs.declared.Validated.the-variants as validated
+use Rattle.model.specs.declared.Contained.{Contained}
+use Rattle.model.specs.declared.Contained.the-variants as contained
+use Rattle.model.specs.declared.Made.{Made}
+use Rattle.model.specs.declared.Made.the-variants as made
+use Rattle.model.specs.declared.Judged.{Judged}
+use Rattle.model.specs.declared.Judged.the-variants as judged
+use Rattle.model.specs.declared.Ran.{Ran}
+use Rattle.model.specs.declared.Ran.the-variants as ran
+
+unfoldable pub readingBy : Check → Rec → Reading
+readingBy pass r = reading.Record r
+readingBy (refuse n i) r = reading.Refused n
+
+-- "Each record's reading is an enum, record or refusal": record i, or the number of the first of 2 to 5 that it breaks
+unfoldable pub readingOf : List ℕ → ℕ → Reading
+readingOf s i = readingBy (recordCheck s i) (decode s i)
+
+-- "number, record"
+unfoldable pub refusal : {A : Type 0} → Refusal → Answer A
+refusal r = refused (r .number) (r .record)
+
+-- step, sheet, table check: nothing but that it was done
+unfoldable pub performedAs : Performed → Answer (Unit {0})
+performedAs performed.Done = done tt
+performedAs (performed.Refused r) = refusal r
+
+-- the number of records
+unfoldable pub validatedAs : Validated → Answer ℕ
+validatedAs (validated.Done n) = done n
+validatedAs (validated.Refused r) = refusal r
+
+-- the container's label
+unfoldable pub containedAs : Contained → Answer ℕ
+containedAs (contained.Done label) = done label
+containedAs (contained.Refused r) = refusal r
+
+-- the count of ones
+unfoldable pub madeAs : Made → Answer ℕ
+madeAs (made.Done n) = done n
+madeAs (made.Refused r) = refusal r
+
+unfoldable pub judgedAs : Judged → Answer Verdict
+judgedAs (judged.Done v) = done v
+judgedAs (judged.Refused r) = refusal r
+
+-- ins, outs and opens done
+unfoldable pub ranAs : Ran → Answer Counts
+ranAs (ran.Done n) = done n
+ranAs (ran.Refused r) = refusal r
+
+unfoldable pub screenedAs : Screened → Answer Screen
+screenedAs (screened.Done x) = done x
+screenedAs (screened.Refused r) = refusal r

@@ -1,0 +1,69 @@
+-- Document 01, "Script run".
+use Prim.Native.Nat.{_%_, _*_, _+_, _/_, ℕ}
+use lib.Dec.{eqb, leb}
+use lib.ListN.{length}
+use mathlib.Core.Bool.{Bool, _&&_, false, true}
+use mathlib.Core.List.{List, [], _∷_, map}
+use Rattle.model.specs.Analysis.{Permit}
+use Rattle.model.specs.Finite.{tabulate}
+use Rattle.model.specs.Records.{Capability, byte, cap-in, cap-open, cap-out, records, word}
+use Rattle.model.specs.Steps.{Outcome, answerOf, met, outcome, stepBytes, unmet}
+use Rattle.model.specs.declared.Counts.{Counts}
+use Rattle.model.specs.declared.Rec.{Rec}
+
+-- "A step names an actor and a partner."
+pub record Order : Type 0 where
+  pub actor : ℕ
+  pub partner : ℕ
+
+-- "steps of four bytes: actor, partner"
+unfoldable pub orderAt : List ℕ → ℕ → Order
+orderAt z k = record { actor = word (byte z (4 * k)) (byte z (4 * k + 1)); partner = word (byte z (4 * k + 2)) (byte z (4 * k + 3)) }
+
+unfoldable pub orders : List ℕ → List Order
+orders z = tabulate 0 (length z / 4) (orderAt z)
+
+-- 13: "script length no multiple of 4, over 4,096, or answers not one byte a step"
+unfoldable pub scriptRight : List ℕ → ℕ → Bool
+scriptRight z room = eqb (length z % 4) 0 && (leb (length z) 4096 && eqb room (length z / 4))
+
+-- "The run does each in order": the itinerary after the steps
+unfoldable pub afterOrders : Permit → List ℕ → List Order → List ℕ
+afterOrders permit s [] = s
+afterOrders permit s (m ∷ ms) = afterOrders permit (stepBytes permit s (m .actor) (m .partner)) ms
+
+-- what becomes of each step
+unfoldable pub outcomes : Permit → List ℕ → List Order → List Outcome
+outcomes permit s [] = []
+outcomes permit s (m ∷ ms) = outcome permit (records s) (m .actor) (m .partner) ∷ outcomes permit (stepBytes permit s (m .actor) (m .partner)) ms
+
+-- "writes one answer byte for each"
+unfoldable pub answersOf : Permit → List ℕ → List Order → List ℕ
+answersOf permit s ms = map answerOf (outcomes permit s ms)
+
+-- "2 in, 3 out, 4 open"
+unfoldable pub kindOf : Capability → ℕ
+kindOf cap-in = 2
+kindOf cap-out = 3
+kindOf cap-open = 4
+
+unfoldable pub doneBy : ℕ → Outcome → ℕ
+doneBy kind (unmet n) = 0
+doneBy kind (met k) = elim (eqb kind (kindOf k)) [ true ↦ 1 | false ↦ 0 ]
+
+-- how many steps of a kind were done
+unfoldable pub howMany : ℕ → List Outcome → ℕ
+howMany kind [] = 0
+howMany kind (o ∷ os) = doneBy kind o + howMany kind os
+
+-- "It returns how many in, out and open steps were done."
+unfoldable pub countsOf : List Outcome → Counts
+countsOf os = record { ins = howMany 2 os; outs = howMany 3 os; opens = howMany 4 os }
+
+unfoldable pub present : Rec → ℕ
+present r = elim (eqb (r .kind) 0) [ true ↦ 0 | false ↦ 1 ]
+
+-- "Records not gone"
+unfoldable pub notGone : List Rec → ℕ
+notGone [] = 0
+notGone (r ∷ rs) = present r + notGone rs

@@ -1,0 +1,79 @@
+-- Document 01, "Policy and table", refusals 7 and 8, and the row request.
+use Prim.Native.Nat.{_%_, _*_, _+_, _/_, _^_, ℕ}
+use lib.Count.{ones}
+use lib.Dec.{eqb, leb}
+use lib.ListN.{drop, length, take}
+use mathlib.Core.Bool.{Bool, _&&_, false, not, true}
+use mathlib.Core.List.{List, [], _∷_}
+use Rattle.model.specs.Finite.{every}
+use Rattle.model.specs.Records.{byte}
+
+-- "0 low, 1 high, 2 boundary"
+unfoldable pub isHigh : List ℕ → ℕ → Bool
+isHigh policy k = eqb (byte policy k) 1
+
+unfoldable pub isBoundary : List ℕ → ℕ → Bool
+isBoundary policy k = eqb (byte policy k) 2
+
+-- 7: "policy not 64 bytes, a byte over 2, or byte 0 not 0"
+unfoldable pub policyRight : List ℕ → Bool
+policyRight policy = eqb (length policy) 64 && (every 64 (λ k. true) (λ k. leb (byte policy k) 2) && eqb (byte policy 0) 0)
+
+-- bit k of a number: "value 2 to the power k"
+unfoldable pub testBit : ℕ → ℕ → Bool
+testBit x k = eqb (x / 2 ^ k % 2) 1
+
+-- bit j of a list of numbers of m bits each
+unfoldable pub bitAt : ℕ → List ℕ → ℕ → Bool
+bitAt m xs j = testBit (byte xs (j / m)) (j % m)
+
+-- "A bit k stands in byte k / 8 (whole part) with value 2 to the power k mod 8."
+abbrev pub bits : List ℕ → ℕ → Bool
+bits table j = bitAt 8 table j
+
+-- a table's three parts: (a, k) in I, (a, n) in H, k in S
+pub record Table : Type 0 where
+  pub I : ℕ → ℕ → Bool
+  pub H : ℕ → ℕ → Bool
+  pub S : ℕ → Bool
+
+-- I: from bit 0, a row of 128 bits for each label; H: from byte 1,024, a row of 64 bits; S: from byte 1,536
+unfoldable pub placeI : ℕ → ℕ → ℕ
+placeI a k = 128 * a + k
+
+unfoldable pub placeH : ℕ → ℕ → ℕ
+placeH a n = 8192 + (64 * a + n)
+
+unfoldable pub placeS : ℕ → ℕ
+placeS k = 12288 + k
+
+-- the table whose bits are the set u
+abbrev pub parts : (ℕ → Bool) → Table
+parts u = record { I = λ a k. u (placeI a k); H = λ a n. u (placeH a n); S = λ k. u (placeS k) }
+
+-- 01's "suspect" labels
+abbrev pub suspects : List ℕ → ℕ → Bool
+suspects table k = bits table (placeS k)
+
+-- 8 for the maker: "table not 1,544 bytes"
+unfoldable pub tableSized : List ℕ → Bool
+tableSized table = eqb (length table) 1544
+
+-- 8: "table not 1,544 bytes, I bit 0 or H row 0 set"
+unfoldable pub tableRight : List ℕ → Bool
+tableRight table =
+    tableSized table
+    && (every 64 (λ a. true) (λ a. not (bits table (placeI a 0))) && every 64 (λ n. true) (λ n. not (bits table (placeH 0 n))))
+
+unfoldable pub partIf : Bool → List ℕ → List ℕ
+partIf true part = part
+partIf false part = []
+
+-- the row request: "the 16 bytes of a label's row", the empty part "for a label above 63 or a table not 1,544 long"
+unfoldable pub rowOf : List ℕ → ℕ → List ℕ
+rowOf table label = partIf (tableSized table && leb label 63) (take 16 (drop (16 * label) table))
+
+-- "how many bits of all 1,544 bytes are one"
+unfoldable pub total : List ℕ → ℕ
+total [] = 0
+total (x ∷ xs) = ones x + total xs

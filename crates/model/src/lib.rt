@@ -1,0 +1,85 @@
+// The types that the contracts name. What they mean is in specs/.
+
+// A record of an itinerary: an ambient, a capability, or gone.
+pub struct Rec {
+    pub kind: u8,
+    pub label: u8,
+    pub name: u8,
+    pub parent: u16,
+}
+
+// How many in, out and open steps a script run did.
+pub struct Counts {
+    pub ins: u16,
+    pub outs: u16,
+    pub opens: u16,
+}
+
+// The screen's finding about an itinerary, a policy and a table, with the lowest label that shows it.
+pub enum Verdict {
+    Exposed(u8),
+    Hinted(u8),
+    Sealed,
+}
+
+// A refusal: the number of its cause, and the record it was found at, 0 where it is none's.
+pub struct Refusal {
+    pub number: u8,
+    pub record: u16,
+}
+
+// What reading a record finds: the record, or the number of the first limit it breaks.
+pub enum Reading {
+    Record(Rec),
+    Refused(u8),
+}
+
+// The answer of a call that has nothing to return but that it was done: step, sheet, table check.
+pub enum Performed {
+    Done,
+    Refused(Refusal),
+}
+
+// The answer of the validation: the number of records.
+pub enum Validated {
+    Done(u16),
+    Refused(Refusal),
+}
+
+// The answer of a container request: a label, 0 for the environment.
+pub enum Contained {
+    Done(u8),
+    Refused(Refusal),
+}
+
+// The answer of the maker: how many bits of the table are one.
+pub enum Made {
+    Done(u16),
+    Refused(Refusal),
+}
+
+// The answer of the verdict.
+pub enum Judged {
+    Done(Verdict),
+    Refused(Refusal),
+}
+
+// The answer of a script run.
+pub enum Ran {
+    Done(Counts),
+    Refused(Refusal),
+}
+
+// What the program shows of an itinerary: the verdict, the table's bits set, the steps done and the records not gone.
+pub struct Screen {
+    pub verdict: Verdict,
+    pub ones: u16,
+    pub counts: Counts,
+    pub left: u16,
+}
+
+// The answer of the program's one call.
+pub enum Screened {
+    Done(Screen),
+    Refused(Refusal),
+}
