@@ -6,3 +6,6 @@ pub mod WellFormed
 pub mod Views
 pub mod Checks
 pub mod Bytes
+pub mod Done
+pub mod Holding
+pub mod Bit
