@@ -7,5 +7,8 @@ pub mod Views
 pub mod Checks
 pub mod Bytes
 pub mod Done
+pub mod Containers
 pub mod Holding
 pub mod Bit
+pub mod Sets
+pub mod Least

@@ -5,20 +5,13 @@ use lib.Bits.{and-mod, and-shr, bitAnd, bitOr, or-lt, or-mod, or-shr}
 use lib.Count.{ones, ones-step}
 use lib.Dec.{eqb, eqb·suc-suc, eqb·suc-zero, eqb·zero-suc}
 use lib.Pow.{pow-mono, shl-exact, shr-shr}
-use mathlib.Core.Bool.{Bool, _&&_, _||_, false, true}
-use mathlib.Core.Path.{_∙_, _≡_, ap, refl, subst, sym}
+use mathlib.Core.Bool.{Bool, _&&_, _||_, false, true, true≢false}
+use mathlib.Core.Path.{_∙_, _≡_, ap, refl, sym}
 use native.Mathlib.Nat.{div-div-eq-div-mul, div-eq-of-lt, div-one, le-of-suc-le-suc, le-refl, le-trans, mod-lt, mul-div-cancel, mul-mod-left, not-suc-le-zero, one-mul, pow-suc, pow-succ', zero-div, zero-lt-suc}
 use native.Mathlib.Omega.{arith}
+use Rattle.model.specs.Tables.{testBit}
 
--- bit k of x
-unfoldable pub testBit : ℕ → ℕ → Bool
-testBit x k = eqb (x / 2 ^ k % 2) 1
-
-pub bit-is : (x k : ℕ) → testBit x k ≡ eqb (x / 2 ^ k % 2) 1
-unfolding testBit
-bit-is x k = refl
-
--- a digit-of is 0 or 1
+-- a digit is 0 or 1
 data Digit : ℕ → Type 0 where
   d0 : Digit 0
   d1 : Digit 1
@@ -78,8 +71,8 @@ half-bit x k = ap (λ (y : ℕ). eqb (y % 2) 1) (div-div-eq-div-mul x 2 (2 ^ k) 
 
 low-digit : {x y : ℕ} → Digit x → Digit y → eqb x 1 ≡ eqb y 1 → x ≡ y
 low-digit d0 d0 e = refl
-low-digit d0 d1 e = absurd (subst T (sym e) tt)
-low-digit d1 d0 e = absurd (subst T e tt)
+low-digit d0 d1 e = absurd (true≢false (sym e))
+low-digit d1 d0 e = absurd (true≢false e)
 low-digit d1 d1 e = refl
 
 pub lowest-bit : (x : ℕ) → testBit x 0 ≡ eqb (x % 2) 1
@@ -110,18 +103,18 @@ pub record Fewer (x y : ℕ) : Type 0 where
   pub le : ones x ≤ ones y
   pub all : ones y ≤ ones x → x ≡ y
 
-digits-le : {x y : ℕ} → Digit x → Digit y → (T (eqb x 1) → T (eqb y 1)) → x ≤ y
+digits-le : {x y : ℕ} → Digit x → Digit y → (eqb x 1 ≡ true → eqb y 1 ≡ true) → x ≤ y
 digits-le d0 q f = zero-le
-digits-le d1 d0 f = absurd (f tt)
+digits-le d1 d0 f = absurd (true≢false (sym (f refl)))
 digits-le d1 d1 f = le-refl 1
 
-pub fewer : (n x y : ℕ) → x < 2 ^ n → y < 2 ^ n → ((k : ℕ) → T (testBit x k) → T (testBit y k)) → Fewer x y
+pub fewer : (n x y : ℕ) → x < 2 ^ n → y < 2 ^ n → ((k : ℕ) → testBit x k ≡ true → testBit y k ≡ true) → Fewer x y
 fewer zero x y hx hy f =
     let e : x ≡ y = lt-one hx ∙ sym (lt-one hy) in
     record { le = rw e (le-refl (ones y)); all = λ _. e }
 fewer (suc n) x y hx hy f =
-    let r : Fewer (x / 2) (y / 2) = fewer n (x / 2) (y / 2) (half-lt n hx) (half-lt n hy) (λ k t. subst T (sym (half-bit y k)) (f (suc k) (subst T (half-bit x k) t))) in
-    let l : x % 2 ≤ y % 2 = digits-le (digit-of x) (digit-of y) (λ t. subst T (lowest-bit y) (f 0 (subst T (sym (lowest-bit x)) t))) in
+    let r : Fewer (x / 2) (y / 2) = fewer n (x / 2) (y / 2) (half-lt n hx) (half-lt n hy) (λ k t. half-bit y k ∙ f (suc k) (sym (half-bit x k) ∙ t)) in
+    let l : x % 2 ≤ y % 2 = digits-le (digit-of x) (digit-of y) (λ t. sym (lowest-bit y) ∙ f 0 (lowest-bit x ∙ t)) in
     let sx : ones x ≡ x % 2 + ones (x / 2) = ones-step x in
     let sy : ones y ≡ y % 2 + ones (y / 2) = ones-step y in
     let g : ones (x / 2) ≤ ones (y / 2) = r .le in
@@ -135,17 +128,12 @@ pub one-shl : (k w : ℕ) → k < w → (1 * 2 ^ k) % 2 ^ w ≡ 2 ^ k
 one-shl k w h = shl-exact 1 k w (le-refl 2) (omega arith) ∙ one-mul (2 ^ k)
 
 -- x's bits are among y's exactly where x | y is y
-pub or-same : (x y : ℕ) → bitOr x y ≡ y → (k : ℕ) → T (testBit x k) → T (testBit y k)
-or-same x y e k t = subst (λ (z : ℕ). T (testBit z k)) e (subst T (sym (or-bit x y k)) (or-true (testBit x k) (testBit y k) t))
-  where
-    or-true : (a b : Bool) → T a → T (a || b)
-    or-true true b h = tt
-    or-true false b h = absurd h
+pub or-same : (x y : ℕ) → bitOr x y ≡ y → (k : ℕ) → testBit x k ≡ true → testBit y k ≡ true
+or-same x y e k t = sym (ap (λ z. testBit z k) e) ∙ or-bit x y k ∙ ap (λ b. b || testBit y k) t
 
-or-absorbs : (a b : Bool) → (T a → T b) → (a || b) ≡ b
-or-absorbs true true f = refl
-or-absorbs true false f = absurd (f tt)
+or-absorbs : (a b : Bool) → (a ≡ true → b ≡ true) → (a || b) ≡ b
+or-absorbs true b f = sym (f refl)
 or-absorbs false b f = refl
 
-pub same-or : (n x y : ℕ) → x < 2 ^ n → y < 2 ^ n → ((k : ℕ) → T (testBit x k) → T (testBit y k)) → bitOr x y ≡ y
+pub same-or : (n x y : ℕ) → x < 2 ^ n → y < 2 ^ n → ((k : ℕ) → testBit x k ≡ true → testBit y k ≡ true) → bitOr x y ≡ y
 same-or n x y hx hy f = bits-ext n (bitOr x y) y (or-lt n x y hx hy) hy (λ k. or-bit x y k ∙ or-absorbs (testBit x k) (testBit y k) (f k))

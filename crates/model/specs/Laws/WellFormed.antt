@@ -68,6 +68,16 @@ pub nested-alive : (r : Rec) → nested r ≡ true → r .kind ≢ 0
 unfolding nested
 nested-alive r h e = omega (arith, leb-true 1 (r .kind) (and-left _ _ h))
 
+name-by : (t : Bool) (n : ℕ) → nameBy t n ≡ true → n < 64
+unfolding nameBy
+name-by true n h = omega (arith, leb-true n 63 h)
+name-by false n h = omega (arith, eqb-true n 0 h)
+
+label-not-zero : (t : Bool) (l : ℕ) → labelIn t l ≡ true → l ≢ 0
+unfolding labelIn
+label-not-zero true l h e = omega (arith, leb-true 1 l (and-left _ _ h))
+label-not-zero false l h e = omega (arith, leb-true 64 l (and-left _ _ h))
+
 label-by : (n a : Bool) (l : ℕ) → labelBy n a l ≡ true → l < 128
 unfolding labelBy
 label-by true a l h = label-in a l h
@@ -80,6 +90,13 @@ module _ {its : List Rec} (wf : WellFormed its) where
   pub labels : (i : ℕ) → at its i .label < 128
   unfolding labelRight
   labels i = label-by _ _ _ (shape-labelled (at its i) (wf .shaped i))
+
+  pub named : (i : ℕ) → at its i .name < 64
+  unfolding nameRight
+  named i = name-by _ _ (shape-named (at its i) (wf .shaped i))
+
+  pub label-pos : (i : ℕ) → nested (at its i) ≡ true → at its i .label ≢ 0
+  label-pos i n e = label-not-zero _ _ (shape-label (at its i) (wf .shaped i) n) e
 
 abbrev pub Alive : List Rec → ℕ → Type 0
 Alive its i = at its i .kind ≢ 0
