@@ -12,3 +12,4 @@ pub mod Holding
 pub mod Bit
 pub mod Sets
 pub mod Least
+pub mod Reach

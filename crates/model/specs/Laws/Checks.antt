@@ -58,6 +58,10 @@ pub or-right : (a b : Bool) → b ≡ true → (a || b) ≡ true
 or-right true b h = refl
 or-right false b h = h
 
+pub or-cases : {C : Type 0} (a b : Bool) → (a || b) ≡ true → (a ≡ true → C) → (b ≡ true → C) → C
+or-cases true b h f g = f refl
+or-cases false b h f g = g h
+
 pub onlyIf-use : (a b : Bool) → onlyIf a b ≡ true → a ≡ true → b ≡ true
 unfolding onlyIf
 onlyIf-use true b h e = h

@@ -103,7 +103,51 @@ module _ (t f : ℕ → Bool) where
       go (yes q) ih = someOf-hit n (rw q at e) (rw q at g)
       go (no q) ih = rest (ih (omega arith)) (t n) (f n) refl refl
 
-pub lowest-make : (f : ℕ → Bool) (i n : ℕ) → ((j : ℕ) → i ≤ j → j < i + n → f j ≡ false) → lowest f i n ≡ none
+pub lowest-nothing : (f : ℕ → Bool) (i n : ℕ) → ((j : ℕ) → i ≤ j → j < i + n → f j ≡ false) → lowest f i n ≡ none
 unfolding lowest
-lowest-make f i zero h = refl
-lowest-make f i (suc n) h = let e = h i (omega arith) (omega arith) in rw (e, lowest) (lowest-make f (suc i) n (λ j l m. h j (omega arith) (omega arith)))
+lowest-nothing f i zero h = refl
+lowest-nothing f i (suc n) h = let e = h i (omega arith) (omega arith) in rw (e, lowest) (lowest-nothing f (suc i) n (λ j l m. h j (omega arith) (omega arith)))
+
+module _ (t f : ℕ → Bool) where
+  pub someOf-use : (n : ℕ) → someOf n t f ≡ true → (x : ℕ) × (x < n) × (t x ≡ true) × (f x ≡ true)
+  unfolding someOf
+  someOf-use zero h = absurd (true≢false (sym h))
+  someOf-use (suc n) h = go (t n) (f n) refl refl (someOf-use n)
+    where
+      up : (x : ℕ) × (x < n) × (t x ≡ true) × (f x ≡ true) → (x : ℕ) × (x < suc n) × (t x ≡ true) × (f x ≡ true)
+      up w = (w .0, omega (arith, w .1), w .2, w .3)
+      go : (a b : Bool) → t n ≡ a → f n ≡ b → (someOf n t f ≡ true → (x : ℕ) × (x < n) × (t x ≡ true) × (f x ≡ true)) → (x : ℕ) × (x < suc n) × (t x ≡ true) × (f x ≡ true)
+      go false b p q ih = up (ih (sym (someOf-skip t f n p) ∙ h))
+      go true true p q ih = (n, omega arith, p, q)
+      go true false p q ih = up (ih (sym (someOf-miss t f n p q) ∙ h))
+
+module _ (f : ℕ → Bool) where
+  -- what the lowest number is
+  pub lowest-some : (i n k : ℕ) → lowest f i n ≡ some k → (i ≤ k) × (k < i + n) × (f k ≡ true) × ((j : ℕ) → i ≤ j → j < k → f j ≡ false)
+  unfolding lowest
+  lowest-some i zero k h = let u : _≡_ {A = ℕ} 0 1 = cc in absurd (omega arith)
+  lowest-some i (suc n) k h = go (f i) refl (lowest-some (suc i) n k)
+    where
+      go : (t : Bool) → f i ≡ t → (lowest f (suc i) n ≡ some k → (suc i ≤ k) × (k < suc i + n) × (f k ≡ true) × ((j : ℕ) → suc i ≤ j → j < k → f j ≡ false)) →
+          (i ≤ k) × (k < i + suc n) × (f k ≡ true) × ((j : ℕ) → i ≤ j → j < k → f j ≡ false)
+      go true e ih =
+          let w : lowest f i (suc n) ≡ some i = rw (e, lowest) in
+          let u : i ≡ k = cc in
+          (omega arith, omega arith, ap f (sym u) ∙ e, λ j l m. absurd (omega arith))
+      go false e ih =
+          let w : lowest f i (suc n) ≡ lowest f (suc i) n = rw (e, lowest) in
+          let v = ih (sym w ∙ h) in
+          (omega (arith, v .0), omega (arith, v .1), v .2, λ j l m. at-start j (ℕ-discrete j i) l m v)
+        where
+          at-start : (j : ℕ) → Dec (j ≡ i) → i ≤ j → j < k → (suc i ≤ k) × (k < suc i + n) × (f k ≡ true) × ((j : ℕ) → suc i ≤ j → j < k → f j ≡ false) → f j ≡ false
+          at-start j (yes q) l m v = ap f q ∙ e
+          at-start j (no q) l m v = v .3 j (omega arith) m
+
+  pub lowest-make : (i n k : ℕ) → i ≤ k → k < i + n → f k ≡ true → ((j : ℕ) → i ≤ j → j < k → f j ≡ false) → lowest f i n ≡ some k
+  unfolding lowest
+  lowest-make i zero k l m e h = absurd (omega arith)
+  lowest-make i (suc n) k l m e h = go (ℕ-discrete i k) (lowest-make (suc i) n k)
+    where
+      go : Dec (i ≡ k) → (suc i ≤ k → k < suc i + n → f k ≡ true → ((j : ℕ) → suc i ≤ j → j < k → f j ≡ false) → lowest f (suc i) n ≡ some k) → lowest f i (suc n) ≡ some k
+      go (yes q) ih = let w : f i ≡ true = ap f q ∙ e in rw (w, lowest) (ap some q)
+      go (no q) ih = rw (h i (omega arith) (omega arith), lowest) (ih (omega arith) (omega arith) e (λ j a b. h j (omega arith) b))
