@@ -13,3 +13,6 @@ pub mod Bit
 pub mod Sets
 pub mod Least
 pub mod Reach
+pub mod Transport
+pub mod SubjectReduction
+pub mod Hiding

@@ -185,10 +185,10 @@ module _ {permit : Permit} {its : List Rec} (wf : WellFormed its) {c b : ℕ} wh
   first-wf cap-out d = out-place-wf wf d
   first-wf cap-open d = dissolve-wf wf b (partner-pos cap-open d)
 
-  pub halfway-cap : (k : Capability) → Done permit k its c b → isAmbient (at (halfway k its c b) c) ≡ false
-  halfway-cap cap-in d = same-amb (place-same wf (parentOf its c) b (in-live wf d) c) ∙ cap-not-amb its c cap-in (d .cap)
-  halfway-cap cap-out d = same-amb (place-same wf (parentOf its c) (parentOf its b) (out-live wf d) c) ∙ cap-not-amb its c cap-out (d .cap)
-  halfway-cap cap-open d = same-amb (dissolve-same wf b (partner-pos cap-open d) c (done-other wf d)) ∙ cap-not-amb its c cap-open (d .cap)
+  pub first-cap : (k : Capability) → Done permit k its c b → isAmbient (at (halfway k its c b) c) ≡ false
+  first-cap cap-in d = same-amb (place-same wf (parentOf its c) b (in-live wf d) c) ∙ cap-not-amb its c cap-in (d .cap)
+  first-cap cap-out d = same-amb (place-same wf (parentOf its c) (parentOf its b) (out-live wf d) c) ∙ cap-not-amb its c cap-out (d .cap)
+  first-cap cap-open d = same-amb (dissolve-same wf b (partner-pos cap-open d) c (done-other wf d)) ∙ cap-not-amb its c cap-open (d .cap)
 
   pub move-wf : (k : Capability) → Done permit k its c b → WellFormed (move k its c b)
   move-wf k d = rw (move-first k its c b) (dissolve-wf (first-wf k d) c (cap-pos k d))
