@@ -16,3 +16,6 @@ pub mod Reach
 pub mod Transport
 pub mod SubjectReduction
 pub mod Hiding
+pub mod Sheet
+pub mod Simulation
+pub mod Boundary

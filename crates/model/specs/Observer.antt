@@ -7,12 +7,12 @@ use Rattle.model.specs.Records.{encode, gone, records, update}
 use Rattle.model.specs.Tables.{suspects}
 use Rattle.model.specs.declared.Rec.{Rec}
 
-unfoldable pub shown : List Rec → (ℕ → Bool) → ℕ → Rec → Rec
-shown its S i r = elim (hidden its S i) [ true ↦ gone | false ↦ r ]
+unfoldable pub onSheet : List Rec → (ℕ → Bool) → ℕ → Rec → Rec
+onSheet its S i r = elim (hidden its S i) [ true ↦ gone | false ↦ r ]
 
 -- 01's "sheet": "a record neither hidden nor gone stands there unchanged, all others are eight zero bytes"
 unfoldable pub sheet : List Rec → (ℕ → Bool) → List Rec
-sheet its S = update (shown its S) its
+sheet its S = update (onSheet its S) its
 
 -- "It is made from itinerary and table alone"
 unfoldable pub sheetOf : List ℕ → List ℕ → List ℕ
