@@ -1,5 +1,5 @@
 -- Bounded loops that compute: for every number, for some number, the lowest number, a list from its entries.
-use Prim.Native.Nat.{suc, zero, ℕ}
+use Prim.Native.Nat.{_+_, suc, zero, ℕ}
 use mathlib.Core.Bool.{Bool, false, true}
 use mathlib.Core.List.{List, [], _∷_}
 use mathlib.Core.Option.{Option, none, some}
@@ -23,3 +23,12 @@ lowest t i (suc n) = elim (t i) [ true ↦ some i | false ↦ lowest t (suc i) n
 unfoldable pub tabulate : {A : Type 0} → ℕ → ℕ → (ℕ → A) → List A
 tabulate i zero f = []
 tabulate i (suc n) f = f i ∷ tabulate (suc i) n f
+
+unfoldable pub digit : Bool → ℕ
+digit true = 1
+digit false = 0
+
+-- how many of the numbers 1 to n pass the test t
+unfoldable pub tally : (ℕ → Bool) → ℕ → ℕ
+tally t zero = 0
+tally t (suc n) = digit (t (suc n)) + tally t n

@@ -19,3 +19,5 @@ pub mod Hiding
 pub mod Sheet
 pub mod Simulation
 pub mod Boundary
+pub mod Lists
+pub mod Secrecy

@@ -1,9 +1,9 @@
 -- Document 01, "The maker writes the least table that holds".
 use Prim.Native.Nat.{_*_, _+_, _^_, suc, zero, ℕ}
-use mathlib.Core.Bool.{Bool, false, true}
+use mathlib.Core.Bool.{Bool}
 use mathlib.Core.List.{List}
 use Rattle.model.specs.Analysis.{Permit, holds}
-use Rattle.model.specs.Finite.{every, tabulate}
+use Rattle.model.specs.Finite.{digit, every, tabulate}
 use Rattle.model.specs.Tables.{parts, testBit}
 use Rattle.model.specs.declared.Rec.{Rec}
 
@@ -11,10 +11,6 @@ use Rattle.model.specs.declared.Rec.{Rec}
 -- a number below 2 ^ n. (It is stated, and never run.)
 unfoldable pub least : ℕ → ((ℕ → Bool) → Bool) → ℕ → Bool
 least n test j = every (2 ^ n) (λ c. test (testBit c)) (λ c. testBit c j)
-
-unfoldable pub digit : Bool → ℕ
-digit true = 1
-digit false = 0
 
 -- the number whose n bits are those of the set u from j on, the lowest first
 unfoldable pub numeral : (ℕ → Bool) → ℕ → ℕ → ℕ

@@ -2,11 +2,11 @@
 use Prim.Native.Nat.{_%_, _*_, _+_, _/_, ℕ}
 use lib.Dec.{eqb, leb}
 use lib.ListN.{length}
-use mathlib.Core.Bool.{Bool, _&&_, false, true}
+use mathlib.Core.Bool.{Bool, _&&_, false, not, true}
 use mathlib.Core.List.{List, [], _∷_, map}
 use Rattle.model.specs.Analysis.{Permit}
-use Rattle.model.specs.Finite.{tabulate}
-use Rattle.model.specs.Records.{Capability, byte, cap-in, cap-open, cap-out, records, word}
+use Rattle.model.specs.Finite.{tabulate, tally}
+use Rattle.model.specs.Records.{Capability, at, byte, cap-in, cap-open, cap-out, records, word}
 use Rattle.model.specs.Steps.{Outcome, answerOf, met, outcome, stepBytes, unmet}
 use Rattle.model.specs.declared.Counts.{Counts}
 use Rattle.model.specs.declared.Rec.{Rec}
@@ -60,10 +60,6 @@ howMany kind (o ∷ os) = doneBy kind o + howMany kind os
 unfoldable pub countsOf : List Outcome → Counts
 countsOf os = record { ins = howMany 2 os; outs = howMany 3 os; opens = howMany 4 os }
 
-unfoldable pub present : Rec → ℕ
-present r = elim (eqb (r .kind) 0) [ true ↦ 0 | false ↦ 1 ]
-
 -- "Records not gone"
 unfoldable pub notGone : List Rec → ℕ
-notGone [] = 0
-notGone (r ∷ rs) = present r + notGone rs
+notGone its = tally (λ i. not (eqb (at its i .kind) 0)) (length its)

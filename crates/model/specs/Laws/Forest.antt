@@ -7,6 +7,7 @@ use mathlib.Core.Logic.{_≢_}
 use mathlib.Core.Path.{_∙_, _≡_, ap, refl, subst, sym}
 use native.Mathlib.Decide.{ℕ-discrete}
 use native.Mathlib.Omega.{arith}
+use Rattle.model.specs.Finite.{digit, tally}
 use Rattle.model.specs.Records.{at}
 
 -- i stands d climbs below the root
@@ -21,29 +22,20 @@ module _ {p : ℕ → ℕ} where
   depth-unique (under h r) root = absurd (h refl)
   depth-unique (under h r) (under h′ r′) = ap suc (depth-unique r r′)
 
--- counting the numbers 1 to n that pass a test
-unfoldable pub b2n : Bool → ℕ
-b2n true = 1
-b2n false = 0
+pub digit-le : (b : Bool) → digit b ≤ 1
+unfolding digit
+digit-le true = omega arith
+digit-le false = omega arith
 
-unfoldable pub cnt : (ℕ → Bool) → ℕ → ℕ
-cnt f zero = 0
-cnt f (suc n) = b2n (f (suc n)) + cnt f n
+pub tally-le : (f : ℕ → Bool) (n : ℕ) → tally f n ≤ n
+unfolding tally
+tally-le f zero = omega arith
+tally-le f (suc n) = omega (arith, tally-le f n, digit-le (f (suc n)))
 
-b2n-le : (b : Bool) → b2n b ≤ 1
-unfolding b2n
-b2n-le true = omega arith
-b2n-le false = omega arith
-
-cnt-le : (f : ℕ → Bool) (n : ℕ) → cnt f n ≤ n
-unfolding cnt
-cnt-le f zero = omega arith
-cnt-le f (suc n) = omega (arith, cnt-le f n, b2n-le (f (suc n)))
-
-pub cnt-same : (f g : ℕ → Bool) (n : ℕ) → ((x : ℕ) → x ≤ n → f x ≡ g x) → cnt f n ≡ cnt g n
-unfolding cnt
-cnt-same f g zero h = refl
-cnt-same f g (suc n) h = rw (h (suc n) (omega arith), cnt-same f g n (λ x l. h x (omega arith)))
+pub tally-same : (f g : ℕ → Bool) (n : ℕ) → ((x : ℕ) → x ≤ n → f x ≡ g x) → tally f n ≡ tally g n
+unfolding tally
+tally-same f g zero h = refl
+tally-same f g (suc n) h = rw (h (suc n) (omega arith), tally-same f g n (λ x l. h x (omega arith)))
 
 unfoldable pub mark : ℕ → (ℕ → Bool) → ℕ → Bool
 mark j f x = eqb x j || f x
@@ -52,15 +44,15 @@ mark-other : (f : ℕ → Bool) (j x : ℕ) → x ≢ j → mark j f x ≡ f x
 unfolding mark
 mark-other f j x h = rw (ne-eqb x j h)
 
-pub cnt-mark : (f : ℕ → Bool) (j n : ℕ) → j ≢ 0 → j ≤ n → f j ≡ false → cnt (mark j f) n ≡ suc (cnt f n)
-unfolding cnt mark b2n
-cnt-mark f j zero z l e = absurd (z (omega arith))
-cnt-mark f j (suc n) z l e = go (eqb (suc n) j) refl (λ h. cnt-mark f j n z h e)
+pub tally-mark : (f : ℕ → Bool) (j n : ℕ) → j ≢ 0 → j ≤ n → f j ≡ false → tally (mark j f) n ≡ suc (tally f n)
+unfolding tally mark digit
+tally-mark f j zero z l e = absurd (z (omega arith))
+tally-mark f j (suc n) z l e = go (eqb (suc n) j) refl (λ h. tally-mark f j n z h e)
   where
-    go : (t : Bool) → eqb (suc n) j ≡ t → (j ≤ n → cnt (mark j f) n ≡ suc (cnt f n)) → b2n (mark j f (suc n)) + cnt (mark j f) n ≡ suc (b2n (f (suc n)) + cnt f n)
+    go : (t : Bool) → eqb (suc n) j ≡ t → (j ≤ n → tally (mark j f) n ≡ suc (tally f n)) → digit (mark j f (suc n)) + tally (mark j f) n ≡ suc (digit (f (suc n)) + tally f n)
     go true q ih =
         let w : f (suc n) ≡ false = rw (eqb-true (suc n) j q) e in
-        rw (q, w, cnt-same (mark j f) f n (λ x l′. mark-other f j x (λ u. omega (arith, eqb-true (suc n) j q)))) (omega arith)
+        rw (q, w, tally-same (mark j f) f n (λ x l′. mark-other f j x (λ u. omega (arith, eqb-true (suc n) j q)))) (omega arith)
     go false q ih =
         let k : j ≢ suc n = λ u. eqb-false (suc n) j q (sym u) in
         let ih′ = ih (omega arith) in
@@ -82,20 +74,20 @@ module _ {p : ℕ → ℕ} where
           let z = ih (rw w at q) in
           (z .0, omega (arith, z .1), z .2)
 
-  on-bound : (n : ℕ) → ((i : ℕ) → p i ≤ n) → {i d : ℕ} → i ≤ n → (r : Depth p i d) → d ≤ cnt (on r) n
+  on-bound : (n : ℕ) → ((i : ℕ) → p i ≤ n) → {i d : ℕ} → i ≤ n → (r : Depth p i d) → d ≤ tally (on r) n
   unfolding on
   on-bound n h l root = omega arith
   on-bound n h l (under {i = i} {d = d} z r) = go (on r i) refl (on-bound n h (h i) r)
     where
-      go : (t : Bool) → on r i ≡ t → d ≤ cnt (on r) n → suc d ≤ cnt (mark i (on r)) n
+      go : (t : Bool) → on r i ≡ t → d ≤ tally (on r) n → suc d ≤ tally (mark i (on r)) n
       go true q ih =
           let w = on-depth r i q in
           absurd (omega (arith, w .1, depth-unique (w .2) (under z r)))
-      go false q ih = rw (cnt-mark (on r) i n z l q) (omega arith)
+      go false q ih = rw (tally-mark (on r) i n z l q) (omega arith)
 
   -- a climb that ends passes each number at most once
   pub depth-le : (n : ℕ) → ((i : ℕ) → p i ≤ n) → {i d : ℕ} → i ≤ n → Depth p i d → d ≤ n
-  depth-le n h l r = omega (arith, on-bound n h l r, cnt-le (on r) n)
+  depth-le n h l r = omega (arith, on-bound n h l r, tally-le (on r) n)
 
   -- the place above
   pub above : {i d : ℕ} → Depth p i d → i ≢ 0 → (e : ℕ) × (d ≡ suc e) × Depth p (p i) e

@@ -10,20 +10,17 @@ use mathlib.Core.Path.{_∙_, _≡_, ap, ap₂, refl, sym}
 use native.Mathlib.Decide.{decLt}
 use native.Mathlib.Nat.{add-suc, add-zero, pow-suc, suc-add, zero-add}
 use native.Mathlib.Omega.{arith}
+use Rattle.model.specs.Finite.{digit}
 use Rattle.model.specs.Laws.Bit.{bits-ext, half-bit, high-bit, lowest-bit}
 use Rattle.model.specs.Laws.Finite.{every-make, every-use, getD-tabulate, length-tabulate}
-use Rattle.model.specs.Least.{bytes, digit, least, numeral}
+use Rattle.model.specs.Laws.Forest.{digit-le}
+use Rattle.model.specs.Least.{bytes, least, numeral}
 use Rattle.model.specs.Records.{byte}
 use Rattle.model.specs.Tables.{bitAt, bits, testBit}
 
 -- each element of the list has at most m bits
 abbrev pub Narrow : ℕ → List ℕ → Type 0
 Narrow m xs = (i : ℕ) → byte xs i < 2 ^ m
-
-digit-le : (b : Bool) → digit b ≤ 1
-unfolding digit
-digit-le true = omega arith
-digit-le false = omega arith
 
 digit-is : (b : Bool) (w : ℕ) → w ≡ digit b → eqb w 1 ≡ b
 unfolding digit

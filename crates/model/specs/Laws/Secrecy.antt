@@ -1,0 +1,170 @@
+-- Demand 3, and subject reduction over lists of events, on bytes.
+use Prim.Native.Nat.{_<_, ℕ}
+use borrow.Author.Tests.{eqb-true, ne-eqb}
+use lib.Dec.{eqb, leb}
+use lib.ListN.{getD, length, take}
+use mathlib.Core.Bool.{false, true}
+use mathlib.Core.List.{List, [], _∷_}
+use mathlib.Core.Logic.{_≢_}
+use mathlib.Core.Path.{_∙_, _≡_, ap, refl, sym}
+use native.Mathlib.Omega.{arith}
+use Rattle.model.specs.Analysis.{Permit, free}
+use Rattle.model.specs.Calls.{checkAnswer, checking, verdictAnswer}
+use Rattle.model.specs.Finite.{every}
+use Rattle.model.specs.Laws.Boundary.{Closed, environment-clear, sealed-closed, suspect-guarded}
+use Rattle.model.specs.Laws.Bytes.{records-encode, valid-wf}
+use Rattle.model.specs.Laws.Checks.{answer-done, answer-value, need-make, need-pass, then-make, then-pass}
+use Rattle.model.specs.Laws.Done.{orders-valid, step-records, step-valid}
+use Rattle.model.specs.Laws.Holding.{Holds, holds-complete, holds-sound}
+use Rattle.model.specs.Laws.Lists.{after-steps, answer-at, given-steps, single-steps}
+use Rattle.model.specs.Laws.Sheet.{by-hidden, sheet-hidden}
+use Rattle.model.specs.Laws.Simulation.{same-outcome, sheet-step}
+use Rattle.model.specs.Laws.SubjectReduction.{step-holds}
+use Rattle.model.specs.Laws.WellFormed.{and-right}
+use Rattle.model.specs.Noninterference.{Event, Noninterference, OnSheet, SuspectsGuarded, after, allSteps, before, given, stepAt}
+use Rattle.model.specs.Observer.{sheet, sheetOf}
+use Rattle.model.specs.Records.{at, byte, encode, records}
+use Rattle.model.specs.Refusals.{answer, done, pass}
+use Rattle.model.specs.Scripts.{Order, afterOrders}
+use Rattle.model.specs.Steps.{answerOf, outcome, step, stepBytes}
+use Rattle.model.specs.Tables.{Table, bits, isBoundary, parts, policyRight, suspects, tableRight}
+use Rattle.model.specs.Validity.{validity}
+use Rattle.model.specs.declared.Rec.{Rec}
+use Rattle.model.specs.declared.Verdict.the-variants.{Exposed, Hinted, Sealed}
+
+-- what acceptance says
+pub record Accepted (s policy table : List ℕ) : Type 0 where
+  pub valid : validity s ≡ pass
+  pub policy-right : policyRight policy ≡ true
+  pub table-right : tableRight table ≡ true
+  pub holding : Holds free policy (records s) (parts (bits table))
+
+pub accepted : (s policy table : List ℕ) → checkAnswer s policy table ≡ done tt → Accepted s policy table
+unfolding checkAnswer checking
+accepted s policy table h =
+    let a = then-pass _ _ (answer-done (checking s policy table) tt tt h) in
+    let b = then-pass _ _ (a .1) in
+    let c = then-pass _ _ (b .1) in
+    record {
+      valid = a .0;
+      policy-right = need-pass _ 7 0 (b .0);
+      table-right = need-pass _ 8 0 (c .0);
+      holding = holds-sound free policy (records s) _ (need-pass _ 9 0 (c .1)) }
+
+pub accept : (s policy table : List ℕ) → Accepted s policy table → checkAnswer s policy table ≡ done tt
+unfolding checkAnswer checking answer
+accept s policy table w =
+    ap (λ c. answer c tt)
+    (then-make (w .valid) (then-make (need-make 7 0 (w .policy-right)) (then-make (need-make 8 0 (w .table-right)) (need-make 9 0 (holds-complete free policy (records s) _ (w .holding))))))
+
+pub policy-low : (policy : List ℕ) → policyRight policy ≡ true → isBoundary policy 0 ≡ false
+unfolding policyRight isBoundary
+policy-low policy h = ne-eqb (byte policy 0) 2 (λ e. omega (arith, eqb-true (byte policy 0) 0 (and-right (every 64 (λ k. true) (λ k. leb (byte policy k) 2)) _ (and-right (eqb (length policy) 64) _ h))))
+
+-- the records of a sheet's bytes
+pub sheet-records : (s table : List ℕ) → records (sheetOf s table) ≡ sheet (records s) (suspects table)
+unfolding sheetOf
+sheet-records s table = records-encode _
+
+-- steps on records, in order
+unfoldable pub walk : Permit → List Rec → List Order → List Rec
+walk permit its [] = its
+walk permit its (m ∷ ms) = walk permit (step permit its (m .actor) (m .partner)) ms
+
+-- a valid itinerary for which the table holds
+pub record Guarding (permit : Permit) (policy : List ℕ) (T : Table) (s : List ℕ) : Type 0 where
+  pub valid : validity s ≡ pass
+  pub holding : Holds permit policy (records s) T
+
+module _ {permit : Permit} {policy : List ℕ} {T : Table} where
+  pub guarding-step : (s : List ℕ) → Guarding permit policy T s → (c b : ℕ) → Guarding permit policy T (stepBytes permit s c b)
+  guarding-step s w c b = record {
+      valid = step-valid permit s c b (w .valid);
+      holding = rw (step-records permit s c b) (step-holds (valid-wf s (w .valid)) (w .holding) c b) }
+
+  pub guarding-orders : (ms : List Order) (s : List ℕ) → Guarding permit policy T s → Guarding permit policy T (afterOrders permit s ms)
+  unfolding afterOrders
+  guarding-orders [] s w = w
+  guarding-orders (m ∷ ms) s w = guarding-orders ms _ (guarding-step s w (m .actor) (m .partner))
+
+  module _ (clear : T .S 0 ≡ false) where
+    -- the sheet after steps is the steps of the sheet
+    pub sheet-walk : (ms : List Order) (s : List ℕ) → Guarding permit policy T s → sheet (records (afterOrders permit s ms)) (T .S) ≡ walk permit (sheet (records s) (T .S)) ms
+    unfolding afterOrders walk
+    sheet-walk [] s w = refl
+    sheet-walk (m ∷ ms) s w =
+        sheet-walk ms _ (guarding-step s w (m .actor) (m .partner))
+        ∙ ap (λ l. walk permit l ms) (ap (λ l. sheet l (T .S)) (step-records permit s (m .actor) (m .partner)) ∙ sheet-step (valid-wf s (w .valid)) (w .holding) clear (m .actor) (m .partner))
+
+    -- the outcome of a step whose actor stands on the sheet is the one on the sheet
+    pub outcome-shown : (s : List ℕ) → Guarding permit policy T s → (c b : ℕ) → at (sheet (records s) (T .S)) c .kind ≢ 0 → outcome permit (sheet (records s) (T .S)) c b ≡ outcome permit (records s) c b
+    outcome-shown s w c b n = let wf = valid-wf s (w .valid) in
+        by-hidden wf (T .S) c (λ h. absurd (n (ap (λ r. r .kind) (sheet-hidden (records s) (T .S) c h)))) (same-outcome wf (w .holding) clear c b)
+
+    -- two itineraries with equal sheets, after the same steps
+    module _ (x y : List ℕ) (wx : Guarding permit policy T x) (wy : Guarding permit policy T y) (same : sheet (records x) (T .S) ≡ sheet (records y) (T .S)) where
+      pub sheets-same : (ms : List Order) → sheet (records (afterOrders permit x ms)) (T .S) ≡ sheet (records (afterOrders permit y ms)) (T .S)
+      sheets-same ms = sheet-walk ms x wx ∙ ap (λ l. walk permit l ms) same ∙ sym (sheet-walk ms y wy)
+
+      pub outcomes-same : (ms : List Order) (c b : ℕ) → at (sheet (records (afterOrders permit x ms)) (T .S)) c .kind ≢ 0 →
+          outcome permit (records (afterOrders permit x ms)) c b ≡ outcome permit (records (afterOrders permit y ms)) c b
+      outcomes-same ms c b n =
+          sym (outcome-shown (afterOrders permit x ms) (guarding-orders ms x wx) c b n)
+          ∙ ap (λ l. outcome permit l c b) (sheets-same ms)
+          ∙ outcome-shown (afterOrders permit y ms) (guarding-orders ms y wy) c b (rw (sheets-same ms) at n)
+
+-- subject reduction: an itinerary stays valid, and an accepted table accepted, after every list of events
+pub valid-after : (es : List Event) (s : List ℕ) → validity s ≡ pass → validity (after s es) ≡ pass
+valid-after es s v = rw (after-steps es s v) (orders-valid free (allSteps es) s v)
+
+pub accepted-after : (es : List Event) (s policy table : List ℕ) → checkAnswer s policy table ≡ done tt → checkAnswer (after s es) policy table ≡ done tt
+accepted-after es s policy table h =
+    let w = accepted s policy table h in
+    let k = guarding-orders (allSteps es) s (record { valid = w .valid; holding = w .holding }) in
+    rw (after-steps es s (w .valid)) (accept _ policy table (record { valid = k .valid; policy-right = w .policy-right; table-right = w .table-right; holding = k .holding }))
+
+-- demand 3
+pub noninterference : (policy table x y : List ℕ) → length x ≡ length y →
+    checkAnswer x policy table ≡ done tt → checkAnswer y policy table ≡ done tt → verdictAnswer x policy table ≡ done Sealed →
+    sheetOf x table ≡ sheetOf y table → (es : List Event) → Noninterference policy table x y es
+unfolding sheetOf before stepAt verdictAnswer
+noninterference policy table x y size hx hy v same es = record {
+    guarded = guard x ax;
+    guarded′ = guard y ay;
+    sheets = sheets-after es;
+    answers = λ n l on. answers-after n l on }
+  where
+    T : Table
+    T = parts (bits table)
+    ax : Accepted x policy table
+    ax = accepted x policy table hx
+    ay : Accepted y policy table
+    ay = accepted y policy table hy
+    z : Closed T policy
+    z = sealed-closed T policy (answer-value (checking x policy table) _ Sealed v)
+    clear : T .S 0 ≡ false
+    clear = environment-clear z
+    sx : Guarding free policy T x
+    sx = record { valid = ax .valid; holding = ax .holding }
+    sy : Guarding free policy T y
+    sy = record { valid = ay .valid; holding = ay .holding }
+    guard : (s : List ℕ) → Accepted s policy table → SuspectsGuarded policy table (after s es)
+    guard s a i e h =
+        let w = accepted (after s es) policy table (accepted-after es s policy table (accept s policy table a)) in
+        let g = suspect-guarded z (policy-low policy (a .policy-right)) (valid-wf (after s es) (w .valid)) (w .holding) i e h in
+        (g .0, (g .1, g .2))
+    same′ : sheet (records x) (T .S) ≡ sheet (records y) (T .S)
+    same′ = sym (sheet-records x table) ∙ ap records same ∙ sheet-records y table
+    sheets-at : (ms : List Order) → sheetOf (afterOrders free x ms) table ≡ sheetOf (afterOrders free y ms) table
+    sheets-at ms = ap encode (sheets-same clear x y sx sy same′ ms)
+    sheets-after : (es : List Event) → sheetOf (after x es) table ≡ sheetOf (after y es) table
+    sheets-after es = ap (λ s. sheetOf s table) (after-steps es x (ax .valid)) ∙ sheets-at (allSteps es) ∙ sym (ap (λ s. sheetOf s table) (after-steps es y (ay .valid)))
+    answers-after : (n : ℕ) → n < length (allSteps es) → OnSheet table (before x es n) (stepAt es n .actor) → getD (given x es) n 0 ≡ getD (given y es) n 0
+    answers-after n l on =
+        let ms = allSteps es in
+        ap (λ a. getD a n 0) (given-steps es x (ax .valid)) ∙ answer-at free x (allSteps es) n l _
+        ∙ ap answerOf (outcomes-same clear x y sx sy same′ (take n (allSteps es)) _ _ (λ k. on (shown k)))
+        ∙ sym (ap (λ a. getD a n 0) (given-steps es y (ay .valid)) ∙ answer-at free y (allSteps es) n l _)
+      where
+        shown : at (sheet (records (afterOrders free x (take n (allSteps es)))) (T .S)) (stepAt es n .actor) .kind ≡ 0 → at (records (sheetOf (before x es n) table)) (stepAt es n .actor) .kind ≡ 0
+        shown k = ap (λ s. at (records (sheetOf s table)) (stepAt es n .actor) .kind) (single-steps (take n (allSteps es)) x (ax .valid)) ∙ ap (λ l. at l (stepAt es n .actor) .kind) (sheet-records _ table) ∙ k
