@@ -21,3 +21,5 @@ pub mod Simulation
 pub mod Boundary
 pub mod Lists
 pub mod Secrecy
+pub mod Conservation
+pub mod Made
