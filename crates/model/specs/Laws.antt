@@ -23,3 +23,4 @@ pub mod Lists
 pub mod Secrecy
 pub mod Conservation
 pub mod Made
+pub mod Examples

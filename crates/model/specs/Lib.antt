@@ -14,4 +14,5 @@ pub mod Scripts
 pub mod Calls
 pub mod Numbers
 pub mod Noninterference
+pub mod Examples
 pub mod Laws
