@@ -23,4 +23,3 @@ pub mod Lists
 pub mod Secrecy
 pub mod Conservation
 pub mod Made
-pub mod Examples

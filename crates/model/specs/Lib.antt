@@ -14,5 +14,4 @@ pub mod Scripts
 pub mod Calls
 pub mod Numbers
 pub mod Noninterference
-pub mod Examples
 pub mod Laws

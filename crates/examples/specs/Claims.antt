@@ -6,12 +6,13 @@ use lib.ListN.{replicate}
 use mathlib.Core.Bool.{Bool, false, true}
 use mathlib.Core.List.{List, [], _∷_}
 use mathlib.Core.Path.{_≡_}
 use Rattle.model.specs.Calls.{makeAfter, makeAnswer, stepAfter, stepAnswer, validateAnswer, verdictAnswer}
+use Rattle.model.specs.Laws.WellFormed.{labels}
 use Rattle.model.specs.Refusals.{done, number, refused}
 use Rattle.model.specs.Steps.{place}
 use Rattle.model.specs.Tables.{suspects}
 use Rattle.model.specs.declared.Verdict.{Verdict}
 use Rattle.model.specs.declared.Verdict.the-variants.{Exposed, Hinted, Sealed}
 
 -- whether a number is in a list
 unfoldable pub isIn : List ℕ → ℕ → Bool

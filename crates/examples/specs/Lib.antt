@@ -1,0 +1,5 @@
+-- The lettered examples of document 01 as claims, and their proofs.
+pub mod Claims
+pub mod Listed
+pub mod Proofs
+pub mod Witness

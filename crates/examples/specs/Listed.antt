@@ -1,0 +1,127 @@
+-- A least table given by the list of its bits: the list holds, and each bit is forced.
+use Prim.Native.Nat.{_%_, _/_, _<_, _≤_, suc, ℕ}
+use borrow.Author.Tests.{eqb-true, leb-true}
+use lib.Count.{ones}
+use lib.Dec.{eqb, leb}
+use lib.ListN.{List·getD-eq-default}
+use mathlib.Core.Bool.{Bool, Bool·beq, _&&_, false, true, true≢false}
+use mathlib.Core.List.{List, [], _∷_}
+use mathlib.Core.Path.{_∙_, _≡_, ap, ap₂, fun-ext, refl, subst, sym}
+use native.Mathlib.Decide.{decLt}
+use native.Mathlib.Omega.{arith}
+use Rattle.examples.specs.Claims.{Meets, blankTable, isIn, makes, suspecting}
+use Rattle.model.specs.Analysis.{free, holds}
+use Rattle.model.specs.Calls.{checkAnswer, checking, makeAfter, makeAnswer, making, verdictAnswer}
+use Rattle.model.specs.Finite.{every}
+use Rattle.model.specs.Laws.Bit.{zero-bit}
+use Rattle.model.specs.Laws.Bytes.{valid-wf}
+use Rattle.model.specs.Laws.Checks.{answer-done, need-make, then-make}
+use Rattle.model.specs.Laws.Finite.{every-use}
+use Rattle.model.specs.Laws.Holding.{Holds, holds-sound}
+use Rattle.model.specs.Laws.Least.{least-table-is}
+use Rattle.model.specs.Laws.Made.{made-accepted}
+use Rattle.model.specs.Laws.Sets.{bits-bytes, bytes-narrow, length-bytes}
+use Rattle.model.specs.Laws.WellFormed.{and-left, and-right, labels}
+use Rattle.model.specs.Least.{bytes, leastTable}
+use Rattle.model.specs.Records.{at, records}
+use Rattle.model.specs.Refusals.{answer, content, done, pass}
+use Rattle.model.specs.Tables.{bitAt, bits, parts, placeS, policyRight, tableSized, testBit, total}
+use Rattle.model.specs.Validity.{validity}
+use Rattle.model.specs.Verdicts.{verdictOf}
+use Rattle.model.specs.declared.Verdict.{Verdict}
+
+-- every number of a list has the property
+abbrev pub Each : (ℕ → Type 0) → List ℕ → Type 0
+Each P [] = Unit {0}
+Each P (x ∷ xs) = P x × Each P xs
+
+unfoldable pub allBelow : ℕ → List ℕ → Bool
+allBelow n [] = true
+allBelow n (x ∷ xs) = leb (suc x) n && allBelow n xs
+
+in-each : (P : ℕ → Type 0) (xs : List ℕ) → Each P xs → (j : ℕ) → isIn xs j ≡ true → P j
+unfolding isIn
+in-each P [] w j h = absurd (true≢false (sym h))
+in-each P (x ∷ xs) w j h = go (eqb j x) refl (in-each P xs (w .1) j)
+  where
+    go : (t : Bool) → eqb j x ≡ t → (isIn xs j ≡ true → P j) → P j
+    go true e ih = subst P (sym (eqb-true j x e)) (w .0)
+    go false e ih = ih (rw (e, isIn) at h)
+
+in-below : (n : ℕ) (xs : List ℕ) → allBelow n xs ≡ true → (j : ℕ) → isIn xs j ≡ true → j < n
+unfolding allBelow isIn
+in-below n [] b j h = absurd (true≢false (sym h))
+in-below n (x ∷ xs) b j h = go (eqb j x) refl (in-below n xs (and-right (leb (suc x) n) _ b) j)
+  where
+    go : (t : Bool) → eqb j x ≡ t → (isIn xs j ≡ true → j < n) → j < n
+    go true e ih = omega (arith, eqb-true j x e, leb-true (suc x) n (and-left _ _ b))
+    go false e ih = ih (rw (e, isIn) at h)
+
+-- the bytes of a list of bits have just these bits
+pub bits-listed : (xs : List ℕ) → allBelow 12352 xs ≡ true → bits (bytes 1544 (isIn xs)) ≡ isIn xs
+unfolding bitAt
+bits-listed xs b = fun-ext (λ j. go j (decLt j 12352))
+  where
+    none : (j : ℕ) → 12352 ≤ j → (t : Bool) → isIn xs j ≡ t → t ≡ false
+    none j l false e = refl
+    none j l true e = absurd (omega (arith, in-below 12352 xs b j e))
+    go : (j : ℕ) → Dec (j < 12352) → bits (bytes 1544 (isIn xs)) j ≡ isIn xs j
+    go j (yes l) = bits-bytes (isIn xs) 1544 j (omega arith)
+    go j (no l) =
+        ap (λ v. testBit v (j % 8)) (List·getD-eq-default (bytes 1544 (isIn xs)) 0 {n = j / 8} (omega (arith, length-bytes (isIn xs) 1544)))
+        ∙ zero-bit (j % 8) ∙ sym (none j (omega arith) (isIn xs j) refl)
+
+-- a list of bits that holds, and that every table that holds has, is the least table
+pub listed : (s policy : List ℕ) → validity s ≡ pass → (xs : List ℕ) → allBelow 12352 xs ≡ true → holds free policy (records s) (parts (isIn xs)) ≡ true →
+    ((u : ℕ → Bool) → Holds free policy (records s) (parts u) → Each (λ j. u j ≡ true) xs) → leastTable free policy (records s) ≡ bytes 1544 (isIn xs)
+listed s policy v xs b h f = let wf = valid-wf s v in
+    sym (least-table-is free policy wf (bytes 1544 (isIn xs)) (length-bytes (isIn xs) 1544) (bytes-narrow (isIn xs) 1544)
+      (subst (λ u. Holds free policy (records s) (parts u)) (sym (bits-listed xs b)) (holds-sound free policy (records s) (parts (isIn xs)) h))
+      (λ u g j l e. in-each (λ i. u i ≡ true) xs (f u g) j (sym (ap (λ w. w j) (bits-listed xs b)) ∙ e)))
+
+-- an example whose least table is listed
+pub record Listed (s policy xs : List ℕ) (ones : ℕ) (verdict : Verdict) : Type 0 where
+  pub valid : validity s ≡ pass
+  pub policy-right : policyRight policy ≡ true
+  pub small : allBelow 12352 xs ≡ true
+  pub holding : holds free policy (records s) (parts (isIn xs)) ≡ true
+  pub forced : (u : ℕ → Bool) → Holds free policy (records s) (parts u) → Each (λ j. u j ≡ true) xs
+  pub counted : total (bytes 1544 (isIn xs)) ≡ ones
+  pub judged : verdictOf (parts (isIn xs)) policy ≡ verdict
+
+module _ {s policy xs : List ℕ} {ones : ℕ} {verdict : Verdict} (w : Listed s policy xs ones verdict) where
+  table-is : leastTable free policy (records s) ≡ bytes 1544 (isIn xs)
+  table-is = listed s policy (w .valid) xs (w .small) (w .holding) (w .forced)
+
+  making-passes : making s policy blankTable ≡ pass
+  unfolding making tableSized blankTable
+  making-passes = then-make (w .valid) (then-make (need-make 7 0 (w .policy-right)) (need-make 8 0 refl))
+
+  made-is : makeAfter s policy blankTable ≡ leastTable free policy (records s)
+  unfolding makeAfter content
+  made-is = rw (making-passes, content)
+
+  check-passes : (t : List ℕ) → t ≡ leastTable free policy (records s) → checking s policy t ≡ pass
+  unfolding checkAnswer
+  check-passes t e =
+      let h : checkAnswer s policy t ≡ done tt = rw e (made-accepted s policy (w .valid) (w .policy-right)) in
+      answer-done (checking s policy t) _ _ h
+
+  pub listed-makes : Meets (makes s policy ones verdict)
+  unfolding Meets makeAnswer verdictAnswer answer checkAnswer
+  listed-makes =
+      (ap₂ answer making-passes (ap total table-is ∙ w .counted),
+       ap₂ answer (check-passes (makeAfter s policy blankTable) made-is)
+         (ap (λ t. verdictOf (parts (bits t)) policy) (made-is ∙ table-is) ∙ ap (λ u. verdictOf (parts u) policy) (bits-listed xs (w .small)) ∙ w .judged))
+
+  pub listed-suspects : (labels : List ℕ) → every 64 (λ k. true) (λ k. Bool·beq (isIn xs (placeS k)) (isIn labels k)) ≡ true → Meets (suspecting s policy labels)
+  unfolding Meets
+  listed-suspects labels h k l =
+      ap (λ t. bits t (placeS k)) (made-is ∙ table-is) ∙ ap (λ u. u (placeS k)) (bits-listed xs (w .small))
+      ∙ same _ _ (every-use (λ j. true) (λ j. Bool·beq (isIn xs (placeS j)) (isIn labels j)) 64 h k l refl)
+    where
+      same : (a b : Bool) → Bool·beq a b ≡ true → a ≡ b
+      same true true e = refl
+      same true false e = absurd (true≢false (sym e))
+      same false true e = absurd (true≢false (sym e))
+      same false false e = refl
