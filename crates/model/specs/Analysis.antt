@@ -22,20 +22,28 @@ unfoldable pub onlyIf : Bool → Bool → Bool
 onlyIf true b = b
 onlyIf false b = true
 
+-- "if b is in S so is a"
+abbrev pub infects : Table → ℕ → ℕ → Bool
+infects T b a = onlyIf (T .S b) (T .S a)
+
+-- "row b of I is inside row p"
+abbrev pub rowInside : Table → ℕ → ℕ → Bool
+rowInside T b p = every 128 (λ k. T .I b k) (λ k. T .I p k)
+
 -- the rule of a capability of label t and name n, "for all labels a, b, p from 0 to 63"
 unfoldable pub ruleHolds : Permit → Table → Capability → ℕ → ℕ → Bool
 -- "in: if (a, t), (p, a), (p, b) are in I and (b, n) in H, then (b, a) is in I, and if b is in S so is a"
 ruleHolds permit T cap-in t n =
     every 64 (λ a. T .I a t) λ a. every 64 (λ p. T .I p a) λ p. every 64 (λ b. T .I p b && (T .H b n && permit cap-in a b)) λ b.
-    T .I b a && onlyIf (T .S b) (T .S a)
+    T .I b a && infects T b a
 -- "out: if (a, t), (b, a), (p, b) are in I and (b, n) in H, then (p, a) is in I, and if b is in S so is a"
 ruleHolds permit T cap-out t n =
     every 64 (λ a. T .I a t) λ a. every 64 (λ b. T .I b a && (T .H b n && permit cap-out a b)) λ b. every 64 (λ p. T .I p b) λ p.
-    T .I p a && onlyIf (T .S b) (T .S a)
+    T .I p a && infects T b a
 -- "open: if (p, t), (p, b) are in I and (b, n) in H, then row b of I is inside row p, and if b is in S so is p"
 ruleHolds permit T cap-open t n =
     every 64 (λ p. T .I p t) λ p. every 64 (λ b. T .I p b && (T .H b n && permit cap-open p b)) λ b.
-    every 128 (λ k. T .I b k) (λ k. T .I p k) && onlyIf (T .S b) (T .S p)
+    rowInside T b p && infects T b p
 
 unfoldable pub rulesHold : Permit → Table → Option Capability → Rec → Bool
 rulesHold permit T none r = true

@@ -1,6 +1,7 @@
 -- Bounded loops that compute: for every number, for some number, the lowest number, a list from its entries.
 use Prim.Native.Nat.{_+_, suc, zero, ℕ}
-use mathlib.Core.Bool.{Bool, false, true}
+use lib.Dec.{eqb}
+use mathlib.Core.Bool.{Bool, false, not, true}
 use mathlib.Core.List.{List, [], _∷_}
 use mathlib.Core.Option.{Option, none, some}
 
@@ -32,3 +33,7 @@ digit false = 0
 unfoldable pub tally : (ℕ → Bool) → ℕ → ℕ
 tally t zero = 0
 tally t (suc n) = digit (t (suc n)) + tally t n
+
+-- two numbers differ
+abbrev pub differ : ℕ → ℕ → Bool
+differ x y = not (eqb x y)

@@ -2,10 +2,10 @@
 use Prim.Native.Nat.{_%_, _*_, _+_, _/_, ℕ}
 use lib.Dec.{eqb, leb}
 use lib.ListN.{length}
-use mathlib.Core.Bool.{Bool, _&&_, false, not, true}
+use mathlib.Core.Bool.{Bool, _&&_, false, true}
 use mathlib.Core.List.{List, [], _∷_, map}
 use Rattle.model.specs.Analysis.{Permit}
-use Rattle.model.specs.Finite.{tabulate, tally}
+use Rattle.model.specs.Finite.{differ, tabulate, tally}
 use Rattle.model.specs.Records.{Capability, at, byte, cap-in, cap-open, cap-out, records, word}
 use Rattle.model.specs.Steps.{Outcome, answerOf, met, outcome, stepBytes, unmet}
 use Rattle.model.specs.declared.Counts.{Counts}
@@ -62,4 +62,4 @@ countsOf os = record { ins = howMany 2 os; outs = howMany 3 os; opens = howMany 
 
 -- "Records not gone"
 unfoldable pub notGone : List Rec → ℕ
-notGone its = tally (λ i. not (eqb (at its i .kind) 0)) (length its)
+notGone its = tally (λ i. differ (at its i .kind) 0) (length its)

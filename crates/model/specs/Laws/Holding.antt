@@ -6,7 +6,7 @@ use mathlib.Core.List.{List}
 use mathlib.Core.Option.{Option, none, some}
 use mathlib.Core.Path.{_∙_, _≡_, refl, subst, sym}
 use native.Mathlib.Omega.{arith}
-use Rattle.model.specs.Analysis.{Permit, holds, onlyIf, recordHolds, ruleHolds, rulesHold}
+use Rattle.model.specs.Analysis.{Permit, holds, onlyIf, recordHolds, rowInside, ruleHolds, rulesHold}
 use Rattle.model.specs.Climbing.{container}
 use Rattle.model.specs.Finite.{every}
 use Rattle.model.specs.Laws.Checks.{and-make, onlyIf-make, onlyIf-use}
@@ -17,17 +17,28 @@ use Rattle.model.specs.Records.{Capability, at, cap-in, cap-open, cap-ou
 use Rattle.model.specs.Tables.{Table, isHigh}
 use Rattle.model.specs.declared.Rec.{Rec}
 
--- row x of I lies inside row y
-abbrev pub Sub : (ℕ → ℕ → Bool) → ℕ → ℕ → Type 0
-Sub I x y = (k : ℕ) → k < 128 → I x k ≡ true → I y k ≡ true
+-- row x of I lies inside row y, up to the label n
+abbrev pub Inside : ℕ → (ℕ → ℕ → Bool) → ℕ → ℕ → Type 0
+Inside n I x y = (k : ℕ) → k < n → I x k ≡ true → I y k ≡ true
 
+abbrev pub Sub : (ℕ → ℕ → Bool) → ℕ → ℕ → Type 0
+Sub I x y = Inside 128 I x y
+
+-- `infects` and `rowInside` as statements
+abbrev pub Infects : Table → ℕ → ℕ → Type 0
+Infects T b a = T .S b ≡ true → T .S a ≡ true
+
+abbrev pub RowInside : Table → ℕ → ℕ → Type 0
+RowInside T b p = Inside 128 (T .I) b p
+
+-- the three rules as statements
 abbrev pub Rule : Permit → Table → Capability → ℕ → ℕ → Type 0
 Rule permit T cap-in t n = (a b p : ℕ) → a < 64 → b < 64 → p < 64 → permit cap-in a b ≡ true →
-    T .I a t ≡ true → T .I p a ≡ true → T .I p b ≡ true → T .H b n ≡ true → (T .I b a ≡ true) × (T .S b ≡ true → T .S a ≡ true)
+    T .I a t ≡ true → T .I p a ≡ true → T .I p b ≡ true → T .H b n ≡ true → (T .I b a ≡ true) × Infects T b a
 Rule permit T cap-out t n = (a b p : ℕ) → a < 64 → b < 64 → p < 64 → permit cap-out a b ≡ true →
-    T .I a t ≡ true → T .I b a ≡ true → T .I p b ≡ true → T .H b n ≡ true → (T .I p a ≡ true) × (T .S b ≡ true → T .S a ≡ true)
+    T .I a t ≡ true → T .I b a ≡ true → T .I p b ≡ true → T .H b n ≡ true → (T .I p a ≡ true) × Infects T b a
 Rule permit T cap-open t n = (b p : ℕ) → b < 64 → p < 64 → permit cap-open p b ≡ true →
-    T .I p t ≡ true → T .I p b ≡ true → T .H b n ≡ true → Sub (T .I) b p × (T .S b ≡ true → T .S p ≡ true)
+    T .I p t ≡ true → T .I p b ≡ true → T .H b n ≡ true → RowInside T b p × Infects T b p
 
 -- what is asked of a record that stands in a container c
 pub record Fits (permit : Permit) (T : Table) (c : ℕ) (r : Rec) : Type 0 where
@@ -43,37 +54,37 @@ module _ (permit : Permit) (T : Table) where
   pub rule-sound : (k : Capability) (t n : ℕ) → ruleHolds permit T k t n ≡ true → Rule permit T k t n
   unfolding ruleHolds
   rule-sound cap-in t n h = λ a b p la lb lp may ia ipa ipb hb.
-      let e₁ = every-use _ _ 64 h a la ia in
-      let e₂ = every-use _ _ 64 e₁ p lp ipa in
-      let e₃ = every-use _ _ 64 e₂ b lb (and-make ipb (and-make hb may)) in
+      let e₁ = every-use _ _ _ h a la ia in
+      let e₂ = every-use _ _ _ e₁ p lp ipa in
+      let e₃ = every-use _ _ _ e₂ b lb (and-make ipb (and-make hb may)) in
       (and-left _ _ e₃, onlyIf-use _ _ (and-right (T .I b a) _ e₃))
   rule-sound cap-out t n h = λ a b p la lb lp may ia iba ipb hb.
-      let e₁ = every-use _ _ 64 h a la ia in
-      let e₂ = every-use _ _ 64 e₁ b lb (and-make iba (and-make hb may)) in
-      let e₃ = every-use _ _ 64 e₂ p lp ipb in
+      let e₁ = every-use _ _ _ h a la ia in
+      let e₂ = every-use _ _ _ e₁ b lb (and-make iba (and-make hb may)) in
+      let e₃ = every-use _ _ _ e₂ p lp ipb in
       (and-left _ _ e₃, onlyIf-use _ _ (and-right (T .I p a) _ e₃))
   rule-sound cap-open t n h = λ b p lb lp may ip ipb hb.
-      let e₁ = every-use _ _ 64 h p lp ip in
-      let e₂ = every-use _ _ 64 e₁ b lb (and-make ipb (and-make hb may)) in
-      (every-use _ _ 128 (and-left _ _ e₂), onlyIf-use _ _ (and-right (every 128 (λ k. T .I b k) (λ k. T .I p k)) _ e₂))
+      let e₁ = every-use _ _ _ h p lp ip in
+      let e₂ = every-use _ _ _ e₁ b lb (and-make ipb (and-make hb may)) in
+      (every-use _ _ _ (and-left _ _ e₂), onlyIf-use _ _ (and-right (rowInside T b p) _ e₂))
 
   pub rule-complete : (k : Capability) (t n : ℕ) → Rule permit T k t n → ruleHolds permit T k t n ≡ true
   unfolding ruleHolds
   rule-complete cap-in t n f =
-      every-make _ _ 64 (λ a la ia. every-make _ _ 64 (λ p lp ipa. every-make _ _ 64 (λ b lb q.
+      every-make _ _ _ (λ a la ia. every-make _ _ _ (λ p lp ipa. every-make _ _ _ (λ b lb q.
         let hb = and-right (T .I p b) _ q in
         let w = f a b p la lb lp (and-right (T .H b n) _ hb) ia ipa (and-left _ _ q) (and-left _ _ hb) in
         and-make (w .0) (onlyIf-make _ _ (w .1)))))
   rule-complete cap-out t n f =
-      every-make _ _ 64 (λ a la ia. every-make _ _ 64 (λ b lb q. every-make _ _ 64 (λ p lp ipb.
+      every-make _ _ _ (λ a la ia. every-make _ _ _ (λ b lb q. every-make _ _ _ (λ p lp ipb.
         let hb = and-right (T .I b a) _ q in
         let w = f a b p la lb lp (and-right (T .H b n) _ hb) ia (and-left _ _ q) ipb (and-left _ _ hb) in
         and-make (w .0) (onlyIf-make _ _ (w .1)))))
   rule-complete cap-open t n f =
-      every-make _ _ 64 (λ p lp ip. every-make _ _ 64 (λ b lb q.
-        let hb = and-right (T .I p b) _ q in
-        let w = f b p lb lp (and-right (T .H b n) _ hb) ip (and-left _ _ q) (and-left _ _ hb) in
-        and-make (every-make _ _ 128 (w .0)) (onlyIf-make _ _ (w .1))))
+      every-make _ _ _ (λ p lp ip. every-make _ _ _ (λ b lb r.
+        let hb = and-right (T .I p b) _ r in
+        let w = f b p lb lp (and-right (T .H b n) _ hb) ip (and-left _ _ r) (and-left _ _ hb) in
+        and-make (every-make _ _ _ (w .0)) (onlyIf-make _ _ (w .1))))
 
   rules-sound : (o : Option Capability) (r : Rec) → rulesHold permit T o r ≡ true → (k : Capability) → o ≡ some k → Rule permit T k (r .label) (r .name)
   unfolding rulesHold

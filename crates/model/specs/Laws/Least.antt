@@ -1,5 +1,5 @@
 -- The least table: it holds, it is accepted, it lies inside every table that holds, and it is the only one that does both.
-use Prim.Native.Nat.{_%_, _*_, _+_, _<_, _^_, ℕ}
+use Prim.Native.Nat.{_%_, _*_, _+_, _<_, _^_, _≤_, ℕ}
 use borrow.Author.Tests.{eq-eqb, le-leb, lt-leb, ne-eqb}
 use lib.Dec.{eqb, leb}
 use lib.ListN.{length}
@@ -15,7 +15,7 @@ use Rattle.model.specs.Climbing.{container}
 use Rattle.model.specs.Laws.Checks.{and-make}
 use Rattle.model.specs.Laws.Containers.{container-small}
 use Rattle.model.specs.Laws.Finite.{every-make}
-use Rattle.model.specs.Laws.Holding.{Holds, Rule, Sub, holds-complete, holds-sound}
+use Rattle.model.specs.Laws.Holding.{Holds, Infects, Inside, Rule, holds-complete, holds-sound}
 use Rattle.model.specs.Laws.Sets.{Narrow, bits-bytes, bytes-bits, bytes-narrow, bytes-same, least-has, least-inside, length-bytes, numeral-lt, numeral-set}
 use Rattle.model.specs.Laws.WellFormed.{WellFormed, amb-nested, label-pos, labels, named, small}
 use Rattle.model.specs.Least.{least, leastTable, numeral}
@@ -40,16 +40,23 @@ module _ {u v : ℕ → Bool} (same : Agree u v) where
   unfolding placeS
   agree-S k l = same (12288 + k) (omega arith)
 
+  -- what the rules conclude carries over, for any labels below 64
+  infects-agree : {b a : ℕ} → b < 64 → a < 64 → Infects (parts u) b a → Infects (parts v) b a
+  infects-agree lb la f s = sym (agree-S _ la) ∙ f (agree-S _ lb ∙ s)
+
+  inside-agree : (n : ℕ) → n ≤ 128 → {b p : ℕ} → b < 64 → p < 64 → Inside n (parts u .I) b p → Inside n (parts v .I) b p
+  inside-agree n m lb lp f k lk i = sym (agree-I _ k lp (omega arith)) ∙ f k lk (agree-I _ k lb (omega arith) ∙ i)
+
   rule-agree : (permit : Permit) (k : Capability) (t n : ℕ) → t < 128 → n < 64 → Rule permit (parts u) k t n → Rule permit (parts v) k t n
   rule-agree permit cap-in t n lt ln f = λ a b p la lb lp may ia ipa ipb hb.
-      let w = f a b p la lb lp may (agree-I a t la lt ∙ ia) (agree-I p a lp (omega arith) ∙ ipa) (agree-I p b lp (omega arith) ∙ ipb) (agree-H b n lb ln ∙ hb) in
-      (sym (agree-I b a lb (omega arith)) ∙ w .0, λ s. sym (agree-S a la) ∙ w .1 (agree-S b lb ∙ s))
+      let w = f a b p la lb lp may (agree-I _ _ la lt ∙ ia) (agree-I _ _ (omega arith) (omega arith) ∙ ipa) (agree-I _ _ (omega arith) (omega arith) ∙ ipb) (agree-H _ _ lb ln ∙ hb) in
+      (sym (agree-I _ _ lb (omega arith)) ∙ w .0, infects-agree lb (omega arith) (w .1))
   rule-agree permit cap-out t n lt ln f = λ a b p la lb lp may ia iba ipb hb.
-      let w = f a b p la lb lp may (agree-I a t la lt ∙ ia) (agree-I b a lb (omega arith) ∙ iba) (agree-I p b lp (omega arith) ∙ ipb) (agree-H b n lb ln ∙ hb) in
-      (sym (agree-I p a lp (omega arith)) ∙ w .0, λ s. sym (agree-S a la) ∙ w .1 (agree-S b lb ∙ s))
+      let w = f a b p la lb lp may (agree-I _ _ la lt ∙ ia) (agree-I _ _ lb (omega arith) ∙ iba) (agree-I _ _ (omega arith) (omega arith) ∙ ipb) (agree-H _ _ lb ln ∙ hb) in
+      (sym (agree-I _ _ (omega arith) (omega arith)) ∙ w .0, infects-agree lb (omega arith) (w .1))
   rule-agree permit cap-open t n lt ln f = λ b p lb lp may ip ipb hb.
-      let w = f b p lb lp may (agree-I p t lp lt ∙ ip) (agree-I p b lp (omega arith) ∙ ipb) (agree-H b n lb ln ∙ hb) in
-      (λ k lk ib. sym (agree-I p k lp lk) ∙ w .0 k lk (agree-I b k lb lk ∙ ib), λ s. sym (agree-S p lp) ∙ w .1 (agree-S b lb ∙ s))
+      let w = f b p lb lp may (agree-I _ _ (omega arith) lt ∙ ip) (agree-I _ _ (omega arith) (omega arith) ∙ ipb) (agree-H _ _ lb ln ∙ hb) in
+      (inside-agree _ (omega arith) lb (omega arith) (w .0), infects-agree lb (omega arith) (w .1))
 
   pub holds-agree : (permit : Permit) (policy : List ℕ) {its : List Rec} → WellFormed its → Holds permit policy its (parts u) → Holds permit policy its (parts v)
   holds-agree permit policy {its} wf h = record {
@@ -64,13 +71,6 @@ module _ (permit : Permit) (policy : List ℕ) (its : List Rec) where
   abbrev pub leastSet : ℕ → Bool
   leastSet = least 12352 (λ u. holds permit policy its (parts u))
 
-  each : {P : (ℕ → Bool) → Type 0} → ((u : ℕ → Bool) → Holds permit policy its (parts u) → P u) → (c : ℕ) → holds permit policy its (parts (testBit c)) ≡ true → P (testBit c)
-  each f c h = f (testBit c) (holds-sound permit policy its (parts (testBit c)) h)
-
-  -- what every table that holds has
-  in-least : (j : ℕ) → ((u : ℕ → Bool) → Holds permit policy its (parts u) → u j ≡ true) → leastSet j ≡ true
-  in-least j f = least-has 12352 _ j (λ c _ h. each {P = λ u. u j ≡ true} f c h)
-
   -- a bit of the least table, in each number whose bits hold
   of-least : (c : ℕ) → c < 2 ^ 12352 → holds permit policy its (parts (testBit c)) ≡ true → (j : ℕ) → leastSet j ≡ true → testBit c j ≡ true
   of-least = least-inside 12352 (λ u. holds permit policy its (parts u))
@@ -81,19 +81,23 @@ module _ (permit : Permit) (policy : List ℕ) (its : List Rec) where
   fits-in : (c : ℕ) → holds permit policy its (parts (testBit c)) ≡ true → Holds permit policy its (parts (testBit c))
   fits-in c h = holds-sound permit policy its (parts (testBit c)) h
 
+  -- what all tables that hold conclude, the least set concludes
+  infects-least : (b a : ℕ) → ((c : ℕ) → c < 2 ^ 12352 → holds permit policy its (parts (testBit c)) ≡ true → Infects (parts (testBit c)) b a) → Infects (parts leastSet) b a
+  infects-least b a f s = from-least _ (λ c l h. f c l h (of-least c l h _ s))
+
+  inside-least : (n b p : ℕ) → ((c : ℕ) → c < 2 ^ 12352 → holds permit policy its (parts (testBit c)) ≡ true → Inside n (parts (testBit c) .I) b p) → Inside n (parts leastSet .I) b p
+  inside-least n b p f k lk i = from-least _ (λ c l h. f c l h k lk (of-least c l h _ i))
+
   rule-least : (i : ℕ) (k : Capability) → capability (at its i .kind) ≡ some k → Rule permit (parts leastSet) k (at its i .label) (at its i .name)
   rule-least i cap-in e = λ a b p la lb lp may ia ipa ipb hb.
-      let w : (c : ℕ) → c < 2 ^ 12352 → (h : holds permit policy its (parts (testBit c)) ≡ true) → (testBit c (placeI b a) ≡ true) × (testBit c (placeS b) ≡ true → testBit c (placeS a) ≡ true) =
-            λ c l h. fits-in c h .fits i .rules cap-in e a b p la lb lp may (of-least c l h _ ia) (of-least c l h _ ipa) (of-least c l h _ ipb) (of-least c l h _ hb) in
-      (from-least _ (λ c l h. w c l h .0), λ s. from-least _ (λ c l h. w c l h .1 (of-least c l h _ s)))
+      (from-least _ (λ c l h. fits-in c h .fits i .rules cap-in e a b p la lb lp may (of-least c l h _ ia) (of-least c l h _ ipa) (of-least c l h _ ipb) (of-least c l h _ hb) .0),
+       infects-least _ _ (λ c l h. fits-in c h .fits i .rules cap-in e a b p la lb lp may (of-least c l h _ ia) (of-least c l h _ ipa) (of-least c l h _ ipb) (of-least c l h _ hb) .1))
   rule-least i cap-out e = λ a b p la lb lp may ia iba ipb hb.
-      let w : (c : ℕ) → c < 2 ^ 12352 → (h : holds permit policy its (parts (testBit c)) ≡ true) → (testBit c (placeI p a) ≡ true) × (testBit c (placeS b) ≡ true → testBit c (placeS a) ≡ true) =
-            λ c l h. fits-in c h .fits i .rules cap-out e a b p la lb lp may (of-least c l h _ ia) (of-least c l h _ iba) (of-least c l h _ ipb) (of-least c l h _ hb) in
-      (from-least _ (λ c l h. w c l h .0), λ s. from-least _ (λ c l h. w c l h .1 (of-least c l h _ s)))
+      (from-least _ (λ c l h. fits-in c h .fits i .rules cap-out e a b p la lb lp may (of-least c l h _ ia) (of-least c l h _ iba) (of-least c l h _ ipb) (of-least c l h _ hb) .0),
+       infects-least _ _ (λ c l h. fits-in c h .fits i .rules cap-out e a b p la lb lp may (of-least c l h _ ia) (of-least c l h _ iba) (of-least c l h _ ipb) (of-least c l h _ hb) .1))
   rule-least i cap-open e = λ b p lb lp may ip ipb hb.
-      let w : (c : ℕ) → c < 2 ^ 12352 → (h : holds permit policy its (parts (testBit c)) ≡ true) → Sub (parts (testBit c) .I) b p × (testBit c (placeS b) ≡ true → testBit c (placeS p) ≡ true) =
-            λ c l h. fits-in c h .fits i .rules cap-open e b p lb lp may (of-least c l h _ ip) (of-least c l h _ ipb) (of-least c l h _ hb) in
-      (λ k lk ib. from-least _ (λ c l h. w c l h .0 k lk (of-least c l h _ ib)), λ s. from-least _ (λ c l h. w c l h .1 (of-least c l h _ s)))
+      (inside-least _ _ _ (λ c l h. fits-in c h .fits i .rules cap-open e b p lb lp may (of-least c l h _ ip) (of-least c l h _ ipb) (of-least c l h _ hb) .0),
+       infects-least _ _ (λ c l h. fits-in c h .fits i .rules cap-open e b p lb lp may (of-least c l h _ ip) (of-least c l h _ ipb) (of-least c l h _ hb) .1))
 
   -- the rules have one conclusion each, so what all tables that hold have in common holds too
   pub least-holds : Holds permit policy its (parts leastSet)
@@ -131,7 +135,7 @@ module _ (permit : Permit) (policy : List ℕ) {its : List Rec} (wf : WellFormed
   least-table-is t e small h f = bytes-bits 1544 t e small ∙ bytes-same 1544 (bits t) (leastSet permit policy its) (λ j l. both _ _ (up j (omega arith)) (least-below (bits t) h j (omega arith)))
     where
       up : (j : ℕ) → j < 12352 → bits t j ≡ true → leastSet permit policy its j ≡ true
-      up j l b = in-least permit policy its j (λ u g. f u g j l b)
+      up j l b = from-least permit policy its j (λ c _ g. f (testBit c) (fits-in permit policy its c g) j l b)
       both : (a b : Bool) → (a ≡ true → b ≡ true) → (b ≡ true → a ≡ true) → a ≡ b
       both true b p q = sym (p refl)
       both false true p q = absurd (true≢false (sym (q refl)))
@@ -166,10 +170,16 @@ module _ where
   wide-pos : (a k : ℕ) → a < 64 → k < 128 → widest (placeI a k) ≡ true → k ≢ 0
   wide-pos a k la lk h z = true≢false (sym h ∙ wide-I a k la lk ∙ ap not (eq-eqb k 0 z))
 
+  wide-infects : (b a : ℕ) → Infects (parts widest) b a
+  wide-infects b a s = wide-S a
+
+  wide-inside : (n : ℕ) → n ≤ 128 → (b p : ℕ) → b < 64 → p < 64 → Inside n (parts widest .I) b p
+  wide-inside n m b p lb lp k lk i = wide-in p k lp (omega arith) (wide-pos b k lb (omega arith) i)
+
   wide-rule : (permit : Permit) (k : Capability) (t n : ℕ) → Rule permit (parts widest) k t n
-  wide-rule permit cap-in t n = λ a b p la lb lp may ia ipa ipb hb. (wide-in b a lb (omega arith) (wide-pos p a lp (omega arith) ipa), λ _. wide-S a)
-  wide-rule permit cap-out t n = λ a b p la lb lp may ia iba ipb hb. (wide-in p a lp (omega arith) (wide-pos b a lb (omega arith) iba), λ _. wide-S a)
-  wide-rule permit cap-open t n = λ b p lb lp may ip ipb hb. (λ k lk ib. wide-in p k lp lk (wide-pos b k lb lk ib), λ _. wide-S p)
+  wide-rule permit cap-in t n = λ a b p la lb lp may ia ipa ipb hb. (wide-in _ _ lb (omega arith) (wide-pos _ _ (omega arith) (omega arith) ipa), wide-infects _ _)
+  wide-rule permit cap-out t n = λ a b p la lb lp may ia iba ipb hb. (wide-in _ _ (omega arith) (omega arith) (wide-pos _ _ lb (omega arith) iba), wide-infects _ _)
+  wide-rule permit cap-open t n = λ b p lb lp may ip ipb hb. (wide-inside _ (omega arith) _ _ lb (omega arith), wide-infects _ _)
 
 module _ (permit : Permit) (policy : List ℕ) {its : List Rec} (wf : WellFormed its) where
   pub widest-holds : Holds permit policy its (parts widest)

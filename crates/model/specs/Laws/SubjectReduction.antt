@@ -10,7 +10,7 @@ use Rattle.model.specs.Analysis.{Permit, holds}
 use Rattle.model.specs.Climbing.{container, labelled, nearest, nesting}
 use Rattle.model.specs.Laws.Containers.{ambients-nearest, container-small, labelled-amb, labelled-other, labelled-same, nearest-amb}
 use Rattle.model.specs.Laws.Done.{Done, amb-alive, cap-alive, cap-nested, in-beside, in-holder, open-beside, out-above, out-holder, outcome-done}
-use Rattle.model.specs.Laws.Holding.{Holds, Rule, Sub}
+use Rattle.model.specs.Laws.Holding.{Holds, Infects, RowInside, Rule, Sub}
 use Rattle.model.specs.Laws.Transport.{Gives, Mono, Nest, Nesting, move-each, move-moved}
 use Rattle.model.specs.Laws.WellFormed.{WellFormed, amb-nested, small}
 use Rattle.model.specs.Records.{Capability, at, cap-in, cap-open, cap-out, capability, isAmbient, parentOf}
@@ -36,9 +36,9 @@ module _ (I : ℕ → ℕ → Bool) where
 module _ {permit : Permit} {policy : List ℕ} {its : List Rec} {T : Table} (wf : WellFormed its) (holds : Holds permit policy its T) (c b : ℕ) where
   -- both conclusions of the three rules, for the actor and the partner of a step
   abbrev pub Ruled : Capability → Type 0
-  Ruled cap-in = (T .I (at its b .label) (at its (parentOf its c) .label) ≡ true) × (T .S (at its b .label) ≡ true → T .S (at its (parentOf its c) .label) ≡ true)
-  Ruled cap-out = (T .I (container its b) (at its (parentOf its c) .label) ≡ true) × (T .S (at its b .label) ≡ true → T .S (at its (parentOf its c) .label) ≡ true)
-  Ruled cap-open = Sub (T .I) (at its b .label) (container its c) × (T .S (at its b .label) ≡ true → T .S (container its c) ≡ true)
+  Ruled cap-in = (T .I (at its b .label) (at its (parentOf its c) .label) ≡ true) × Infects T (at its b .label) (at its (parentOf its c) .label)
+  Ruled cap-out = (T .I (container its b) (at its (parentOf its c) .label) ≡ true) × Infects T (at its b .label) (at its (parentOf its c) .label)
+  Ruled cap-open = RowInside T (at its b .label) (container its c) × Infects T (at its b .label) (container its c)
 
   pub ruled : (k : Capability) → Done permit k its c b → Ruled k
   unfolding ready
