@@ -1,7 +1,7 @@
 -- A least table given by the list of its bits: the list holds, and each bit is forced.
 use Prim.Native.Nat.{_%_, _/_, _<_, _≤_, suc, ℕ}
 use borrow.Author.Tests.{eqb-true, leb-true}
-use lib.Count.{ones}
+use lib.Count.{ones, onesIn}
 use lib.Dec.{eqb, leb}
 use lib.ListN.{List·getD-eq-default}
 use mathlib.Core.Bool.{Bool, Bool·beq, _&&_, false, true, true≢false}
@@ -9,10 +9,11 @@ use mathlib.Core.List.{List, [], _∷_}
 use mathlib.Core.Path.{_∙_, _≡_, ap, ap₂, fun-ext, refl, subst, sym}
 use native.Mathlib.Decide.{decLt}
 use native.Mathlib.Omega.{arith}
-use Rattle.examples.specs.Claims.{Meets, blankTable, isIn, makes, suspecting}
-use Rattle.model.specs.Analysis.{free, holds}
-use Rattle.model.specs.Calls.{checkAnswer, checking, makeAfter, makeAnswer, making, verdictAnswer}
-use Rattle.model.specs.Finite.{every}
+use Rattle.examples.specs.Claims.{Meets, allLow, blankTable, classes, isIn, itineraryA, itineraryB, itineraryC, itineraryD, itineraryE, itineraryF, itineraryG, itineraryH, makes, rec, recordsA, suspecting}
+use Rattle.model.specs.Analysis.{free, holds, onlyIf, recordHolds, ruleHolds, rulesHold}
+use Rattle.model.specs.Calls.{checkAnswer, checking, makeAfter, makeAnswer, making, metCheck, runAfter, runAnswers, running, stepAfter, stepAnswer, stepping, validateAnswer, verdictAnswer}
+use Rattle.model.specs.Climbing.{ambientAnd, hides, isSuspect, labelled, reaches, view, viewFrom}
+use Rattle.model.specs.Finite.{digit, every, lowest, someOf, tabulate}
 use Rattle.model.specs.Laws.Bit.{zero-bit}
 use Rattle.model.specs.Laws.Bytes.{valid-wf}
 use Rattle.model.specs.Laws.Checks.{answer-done, need-make, then-make}
@@ -22,13 +23,22 @@ use Rattle.model.specs.Laws.Least.{least-table-is}
 use Rattle.model.specs.Laws.Made.{made-accepted}
 use Rattle.model.specs.Laws.Sets.{bits-bytes, bytes-narrow, length-bytes}
 use Rattle.model.specs.Laws.WellFormed.{and-left, and-right, labels}
-use Rattle.model.specs.Least.{bytes, leastTable}
-use Rattle.model.specs.Records.{at, records}
-use Rattle.model.specs.Refusals.{answer, content, done, pass}
-use Rattle.model.specs.Tables.{bitAt, bits, parts, placeS, policyRight, tableSized, testBit, total}
-use Rattle.model.specs.Validity.{validity}
-use Rattle.model.specs.Verdicts.{verdictOf}
+use Rattle.model.specs.Least.{bytes, leastTable, numeral}
+use Rattle.model.specs.Noninterference.{after, afterEvent, allSteps, given, givenBy, kept, stepsOf}
+use Rattle.model.specs.Observer.{onSheet, sheet}
+use Rattle.model.specs.Records.{at, byteOf, capability, count, decode, encode, isAmbient, nested, records, updateFrom}
+use Rattle.model.specs.Refusals.{andThen, answer, content, done, eachOf, need, pass}
+use Rattle.model.specs.Scripts.{afterOrders, answersOf, orderAt, orders, outcomes, scriptRight}
+use Rattle.model.specs.Steps.{answerOf, decide, dissolve, dissolved, fit, move, outcome, outcomeBy, place, placed, ready, rewritten, stands, stepBytes}
+use Rattle.model.specs.Tables.{bitAt, bits, isBoundary, isHigh, parts, placeH, placeI, placeS, policyRight, tableSized, testBit, total}
+use Rattle.model.specs.Validity.{blank, climbCheck, goneRight, kindRight, labelBy, labelIn, labelRight, nameBy, nameRight, parentRight, recordCheck, sizeRight, spareRight, validity}
+use Rattle.model.specs.Verdicts.{alike, growing, grown, inR, joins, marked, opening, reached, verdictBy, verdictOf}
 use Rattle.model.specs.declared.Verdict.{Verdict}
+
+-- what the examples compute with: to unfold this is to unfold all that its line names
+unfoldable pub computing : ℕ
+unfolding sizeRight kindRight spareRight blank goneRight labelIn labelBy labelRight nameBy nameRight parentRight recordCheck climbCheck validity count byteOf decode records tabulate at isAmbient nested viewFrom reaches need andThen eachOf view labelled capability every onlyIf ruleHolds rulesHold recordHolds holds isHigh placeI placeH placeS isIn someOf lowest marked alike joins grown growing reached opening inR isBoundary verdictBy verdictOf encode updateFrom ambientAnd placed place dissolved dissolve ready stands fit move decide outcomeBy outcome answerOf rewritten stepBytes metCheck stepping stepAnswer stepAfter answer content orderAt orders scriptRight afterOrders outcomes answersOf running runAfter runAnswers afterEvent after kept stepsOf allSteps givenBy given hides isSuspect sheet onSheet policyRight total bytes numeral digit ones onesIn validateAnswer rec classes allLow recordsA itineraryA itineraryB itineraryC itineraryD itineraryE itineraryF itineraryG itineraryH
+computing = 0
 
 -- every number of a list has the property
 abbrev pub Each : (ℕ → Type 0) → List ℕ → Type 0
@@ -65,6 +75,7 @@ bits-listed xs b = fun-ext (λ j. go j (decLt j 12352))
     none : (j : ℕ) → 12352 ≤ j → (t : Bool) → isIn xs j ≡ t → t ≡ false
     none j l false e = refl
     none j l true e = absurd (omega (arith, in-below 12352 xs b j e))
+
     go : (j : ℕ) → Dec (j < 12352) → bits (bytes 1544 (isIn xs)) j ≡ isIn xs j
     go j (yes l) = bits-bytes (isIn xs) 1544 j (omega arith)
     go j (no l) =
@@ -76,8 +87,8 @@ pub listed : (s policy : List ℕ) → validity s ≡ pass → (xs : List ℕ) �
     ((u : ℕ → Bool) → Holds free policy (records s) (parts u) → Each (λ j. u j ≡ true) xs) → leastTable free policy (records s) ≡ bytes 1544 (isIn xs)
 listed s policy v xs b h f = let wf = valid-wf s v in
     sym (least-table-is free policy wf (bytes 1544 (isIn xs)) (length-bytes (isIn xs) 1544) (bytes-narrow (isIn xs) 1544)
-      (subst (λ u. Holds free policy (records s) (parts u)) (sym (bits-listed xs b)) (holds-sound free policy (records s) (parts (isIn xs)) h))
-      (λ u g j l e. in-each (λ i. u i ≡ true) xs (f u g) j (sym (ap (λ w. w j) (bits-listed xs b)) ∙ e)))
+    (subst (λ u. Holds free policy (records s) (parts u)) (sym (bits-listed xs b)) (holds-sound free policy (records s) (parts (isIn xs)) h))
+    (λ u g j l e. in-each (λ i. u i ≡ true) xs (f u g) j (sym (ap (λ w. w j) (bits-listed xs b)) ∙ e)))
 
 -- an example whose least table is listed
 pub record Listed (s policy xs : List ℕ) (ones : ℕ) (verdict : Verdict) : Type 0 where
@@ -109,10 +120,11 @@ module _ {s policy xs : List ℕ} {ones : ℕ} {verdict : Verdict} (w : Listed s
 
   pub listed-makes : Meets (makes s policy ones verdict)
   unfolding Meets makeAnswer verdictAnswer answer checkAnswer
-  listed-makes =
-      (ap₂ answer making-passes (ap total table-is ∙ w .counted),
-       ap₂ answer (check-passes (makeAfter s policy blankTable) made-is)
-         (ap (λ t. verdictOf (parts (bits t)) policy) (made-is ∙ table-is) ∙ ap (λ u. verdictOf (parts u) policy) (bits-listed xs (w .small)) ∙ w .judged))
+  listed-makes = (
+    ap₂ answer making-passes (ap total table-is ∙ w .counted),
+    ap₂ answer (check-passes (makeAfter s policy blankTable) made-is)
+        (ap (λ t. verdictOf (parts (bits t)) policy) (made-is ∙ table-is) ∙ ap (λ u. verdictOf (parts u) policy) (bits-listed xs (w .small)) ∙ w .judged),
+  )
 
   pub listed-suspects : (labels : List ℕ) → every 64 (λ k. true) (λ k. Bool·beq (isIn xs (placeS k)) (isIn labels k)) ≡ true → Meets (suspecting s policy labels)
   unfolding Meets

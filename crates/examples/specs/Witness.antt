@@ -8,25 +8,22 @@ use mathlib.Core.List.{List, [], _∷_}
 use mathlib.Core.Path.{_∙_, _≡_, ap, ap₂, refl, subst, sym}
 use native.Mathlib.Omega.{arith}
 use Rattle.examples.specs.Claims.{classes, isIn, rec}
-use Rattle.examples.specs.Listed.{allBelow, bits-listed}
-use Rattle.model.specs.Analysis.{free, holds, onlyIf, recordHolds, ruleHolds, rulesHold}
-use Rattle.model.specs.Calls.{checkAnswer, checking, metCheck, runAfter, runAnswers, running, stepAfter, stepAnswer, stepping, verdictAnswer}
-use Rattle.model.specs.Climbing.{ambientAnd, hides, isSuspect, labelled, reaches, view, viewFrom}
-use Rattle.model.specs.Finite.{every, lowest, someOf, tabulate}
+use Rattle.examples.specs.Listed.{allBelow, bits-listed, computing}
+use Rattle.model.specs.Analysis.{free, holds}
+use Rattle.model.specs.Calls.{checkAnswer, checking, verdictAnswer}
+use Rattle.model.specs.Finite.{every}
 use Rattle.model.specs.Laws.Checks.{and-make, answer-done}
 use Rattle.model.specs.Laws.Holding.{holds-sound}
 use Rattle.model.specs.Laws.Secrecy.{accept, noninterference}
 use Rattle.model.specs.Laws.Sets.{length-bytes}
 use Rattle.model.specs.Least.{bytes}
-use Rattle.model.specs.Noninterference.{Event, Noninterference, after, afterEvent, allSteps, given, givenBy, kept, script, single, stepsOf}
-use Rattle.model.specs.Observer.{onSheet, sheet, sheetOf}
-use Rattle.model.specs.Records.{at, byteOf, capability, count, decode, encode, isAmbient, nested, records, updateFrom}
-use Rattle.model.specs.Refusals.{andThen, answer, content, done, eachOf, need, pass}
-use Rattle.model.specs.Scripts.{afterOrders, answersOf, orderAt, orders, outcomes, scriptRight}
-use Rattle.model.specs.Steps.{answerOf, decide, dissolve, dissolved, fit, move, outcome, outcomeBy, place, placed, ready, rewritten, stands, stepBytes}
-use Rattle.model.specs.Tables.{bits, isBoundary, isHigh, parts, placeH, placeI, placeS, policyRight, tableRight, tableSized}
-use Rattle.model.specs.Validity.{blank, climbCheck, goneRight, kindRight, labelBy, labelIn, labelRight, nameBy, nameRight, parentRight, recordCheck, sizeRight, spareRight, validity}
-use Rattle.model.specs.Verdicts.{alike, growing, grown, inR, joins, marked, opening, reached, verdictBy, verdictOf}
+use Rattle.model.specs.Noninterference.{Event, Noninterference, allSteps, given, script, single}
+use Rattle.model.specs.Observer.{sheet, sheetOf}
+use Rattle.model.specs.Records.{encode, records}
+use Rattle.model.specs.Refusals.{answer, done, pass}
+use Rattle.model.specs.Tables.{bits, parts, placeH, placeI, placeS, policyRight, tableRight, tableSized}
+use Rattle.model.specs.Validity.{validity}
+use Rattle.model.specs.Verdicts.{verdictOf}
 use Rattle.model.specs.declared.Verdict.the-variants.{Sealed}
 
 -- below the boundary 1: the high ambient 2, which holds an ambient 5 and, in the first bench, the capability to open it;
@@ -41,7 +38,7 @@ unfoldable pub benchY : List ℕ
 benchY = rec 1 1 0 0 (rec 1 2 1 1 (rec 1 5 5 2 (rec 0 0 0 0 shown-rest)))
 
 unfoldable pub bitsW : List ℕ
-unfolding placeI placeH placeS
+unfolding computing
 bitsW =
     placeI 0 1 ∷ placeI 1 2 ∷ placeI 2 5 ∷ placeI 2 64 ∷ placeI 0 3 ∷ placeI 0 4 ∷ placeI 4 65 ∷ placeI 3 4
     ∷ placeH 1 0 ∷ placeH 2 1 ∷ placeH 5 5 ∷ placeH 3 2 ∷ placeH 4 3 ∷ placeS 2 ∷ []
@@ -54,7 +51,7 @@ unfoldable pub eventsW : List Event
 eventsW = single 7 5 ∷ single 4 3 ∷ single 1 1 ∷ script (7 ∷ 0 ∷ 5 ∷ 0 ∷ []) 1 ∷ script (4 ∷ 0 ∷ 3 ∷ 0 ∷ []) 0 ∷ []
 
 small-W : allBelow 12352 bitsW ≡ true
-unfolding allBelow bitsW placeI placeH placeS
+unfolding computing allBelow bitsW
 small-W = refl
 
 bits-W : bits tableW ≡ isIn bitsW
@@ -66,7 +63,7 @@ unfolding tableW
 length-W = length-bytes (isIn bitsW) 1544
 
 form-W : (every 64 (λ a. true) (λ a. not (isIn bitsW (placeI a 0))) && every 64 (λ n. true) (λ n. not (isIn bitsW (placeH 0 n)))) ≡ true
-unfolding every isIn bitsW placeI placeH placeS
+unfolding computing bitsW
 form-W = refl
 
 right-W : tableRight tableW ≡ true
@@ -74,32 +71,35 @@ unfolding tableRight tableSized
 right-W = and-make (eq-eqb _ _ length-W) (rw bits-W form-W)
 
 policy-W : policyRight classes ≡ true
-unfolding policyRight every classes
+unfolding computing
 policy-W = refl
 
 valid-X : validity benchX ≡ pass
-unfolding sizeRight kindRight spareRight blank goneRight labelIn labelBy labelRight nameBy nameRight parentRight recordCheck climbCheck validity count byteOf decode records tabulate at isAmbient nested viewFrom reaches need andThen eachOf rec classes shown-rest benchX benchY
+unfolding computing shown-rest benchX benchY
 valid-X = refl
 
 valid-Y : validity benchY ≡ pass
-unfolding sizeRight kindRight spareRight blank goneRight labelIn labelBy labelRight nameBy nameRight parentRight recordCheck climbCheck validity count byteOf decode records tabulate at isAmbient nested viewFrom reaches need andThen eachOf rec classes shown-rest benchX benchY
+unfolding computing shown-rest benchX benchY
 valid-Y = refl
 
 holding-X : holds free classes (records benchX) (parts (isIn bitsW)) ≡ true
-unfolding sizeRight kindRight spareRight blank goneRight labelIn labelBy labelRight nameBy nameRight parentRight recordCheck climbCheck validity count byteOf decode records tabulate at isAmbient nested viewFrom reaches need andThen eachOf view labelled capability every onlyIf ruleHolds rulesHold recordHolds holds isHigh placeI placeH placeS isIn rec classes shown-rest benchX benchY bitsW
+unfolding computing shown-rest benchX benchY bitsW
 holding-X = refl
 
 holding-Y : holds free classes (records benchY) (parts (isIn bitsW)) ≡ true
-unfolding sizeRight kindRight spareRight blank goneRight labelIn labelBy labelRight nameBy nameRight parentRight recordCheck climbCheck validity count byteOf decode records tabulate at isAmbient nested viewFrom reaches need andThen eachOf view labelled capability every onlyIf ruleHolds rulesHold recordHolds holds isHigh placeI placeH placeS isIn rec classes shown-rest benchX benchY bitsW
+unfolding computing shown-rest benchX benchY bitsW
 holding-Y = refl
 
 accepting : (s : List ℕ) → validity s ≡ pass → holds free classes (records s) (parts (isIn bitsW)) ≡ true → checkAnswer s classes tableW ≡ done tt
 accepting s v h = accept s classes tableW (record {
-    valid = v; policy-right = policy-W; table-right = right-W;
-    holding = holds-sound free classes (records s) (parts (bits tableW)) (rw bits-W h) })
+  valid = v;
+  policy-right = policy-W;
+  table-right = right-W;
+  holding = holds-sound free classes (records s) (parts (bits tableW)) (rw bits-W h);
+})
 
 sealed-W : verdictOf (parts (isIn bitsW)) classes ≡ Sealed
-unfolding someOf lowest marked alike joins grown growing reached opening inR isBoundary verdictBy verdictOf tabulate isHigh placeI placeH placeS isIn bitsW classes
+unfolding computing bitsW
 sealed-W = refl
 
 verdict-W : verdictAnswer benchX classes tableW ≡ done Sealed
@@ -107,7 +107,7 @@ unfolding verdictAnswer checkAnswer answer
 verdict-W = ap₂ answer (answer-done (checking benchX classes tableW) _ _ (accepting benchX valid-X holding-X)) (ap (λ u. verdictOf (parts u) classes) bits-W ∙ sealed-W)
 
 sheets-listed : sheet (records benchX) (λ k. isIn bitsW (placeS k)) ≡ sheet (records benchY) (λ k. isIn bitsW (placeS k))
-unfolding sizeRight kindRight spareRight blank goneRight labelIn labelBy labelRight nameBy nameRight parentRight recordCheck climbCheck validity count byteOf decode records tabulate at isAmbient nested viewFrom reaches need andThen eachOf view hides isSuspect sheet onSheet updateFrom placeI placeH placeS isIn bitsW rec classes shown-rest benchX benchY
+unfolding computing bitsW shown-rest benchX benchY
 sheets-listed = refl
 
 sheets-W : sheetOf benchX tableW ≡ sheetOf benchY tableW
@@ -126,14 +126,14 @@ unfolding rec benchX benchY shown-rest
 different e = let u : _≡_ {A = ℕ} 4 0 = ap (λ l. getD l 24 0) e in absurd (omega arith)
 
 pub answers-X : given benchX eventsW ≡ 0 ∷ 0 ∷ 10 ∷ 10 ∷ []
-unfolding sizeRight kindRight spareRight blank goneRight labelIn labelBy labelRight nameBy nameRight parentRight recordCheck climbCheck validity count byteOf decode records tabulate at isAmbient nested viewFrom reaches need andThen eachOf view labelled capability encode updateFrom ambientAnd placed place dissolved dissolve ready stands fit move decide outcomeBy outcome answerOf rewritten stepBytes metCheck stepping stepAnswer stepAfter answer content orderAt orders scriptRight afterOrders outcomes answersOf running runAfter runAnswers afterEvent after kept stepsOf allSteps givenBy given rec classes shown-rest benchX benchY eventsW
+unfolding computing shown-rest benchX benchY eventsW
 answers-X = refl
 
 pub answers-Y : given benchY eventsW ≡ 0 ∷ 10 ∷ 10 ∷ 10 ∷ []
-unfolding sizeRight kindRight spareRight blank goneRight labelIn labelBy labelRight nameBy nameRight parentRight recordCheck climbCheck validity count byteOf decode records tabulate at isAmbient nested viewFrom reaches need andThen eachOf view labelled capability encode updateFrom ambientAnd placed place dissolved dissolve ready stands fit move decide outcomeBy outcome answerOf rewritten stepBytes metCheck stepping stepAnswer stepAfter answer content orderAt orders scriptRight afterOrders outcomes answersOf running runAfter runAnswers afterEvent after kept stepsOf allSteps givenBy given rec classes shown-rest benchX benchY eventsW
+unfolding computing shown-rest benchX benchY eventsW
 answers-Y = refl
 
 -- four steps in all: the run refused with 13 stands for none
 pub steps-W : length (allSteps eventsW) ≡ 4
-unfolding orderAt orders scriptRight afterOrders outcomes answersOf running runAfter runAnswers afterEvent after kept stepsOf allSteps givenBy given tabulate eventsW
+unfolding computing eventsW
 steps-W = refl

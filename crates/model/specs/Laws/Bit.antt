@@ -120,7 +120,7 @@ fewer (suc n) x y hx hy f =
     let g : ones (x / 2) ≤ ones (y / 2) = r .le in
     record {
       le = omega arith;
-      all = λ h. let e : x / 2 ≡ y / 2 = r .all (omega arith) in omega arith
+      all = λ h. let e : x / 2 ≡ y / 2 = r .all (omega arith) in omega arith;
     }
 
 -- `1 << k` at w bits

@@ -55,8 +55,10 @@ module _ (T : Table) (policy : List ℕ) where
     where
       high : ℕ → Bool
       high k = inR T policy k && isHigh policy k
+
       both : ℕ → Bool
       both k = inR T policy k && T .S k
+
       go : (o o′ : Option ℕ) → lowest both 0 64 ≡ o′ → verdictBy o o′ ≡ Sealed → (k : ℕ) → k < 64 → T .S k ≡ true → inR T policy k ≡ false
       go (some j) o′ e w k l s = let u : _≡_ {A = ℕ} 0 1 = cc in absurd (omega arith)
       go none (some j) e w k l s = let u : _≡_ {A = ℕ} 0 1 = cc in absurd (omega arith)
@@ -85,10 +87,12 @@ module _ {permit : Permit} {policy : List ℕ} {T : Table} (z : Closed T policy)
     where
       Goal : Type 0
       Goal = ((k : ℕ) × Bounded policy its (climb (parentOf its) k i)) ⊎ Free i
+
       go : (t w : Bool) → isAmbient (at its i) ≡ t → isBoundary policy (at its i .label) ≡ w → Free (parentOf its i) → Goal
       go true true e b f = inl (0, (e, b))
       go true false e b f = inr (rw (nearest-amb wf i e) (z .next _ _ (nearest-small wf (parentOf its i)) (small wf i e) (f .0) (f .1) (holds .fits i .nest (amb-nested _ e))), rw (nearest-amb wf i e) b)
       go false w e b f = inr (rw (nearest-up wf i n e) (f .0), rw (nearest-up wf i n e) (f .1))
+
       up : ((k : ℕ) × Bounded policy its (climb (parentOf its) k (parentOf its i))) ⊎ Free (parentOf its i) → Goal
       up (inl w) = inl (suc (w .0), w .1)
       up (inr w) = go (isAmbient (at its i)) (isBoundary policy (at its i .label)) refl refl w
@@ -103,4 +107,4 @@ module _ {permit : Permit} {policy : List ℕ} {T : Table} (z : Closed T policy)
       go (inl w) = (w .0, w .1 .0, w .1 .1)
       go (inr w) = absurd (true≢false
           (sym (z .next _ _ (nearest-small wf (parentOf its i)) (small wf i e) (w .0) (w .1) (holds .fits i .nest (amb-nested _ e)))
-           ∙ z .apart (at its i .label) (small wf i e) s))
+          ∙ z .apart (at its i .label) (small wf i e) s))

@@ -46,6 +46,7 @@ dissolve-notGone {its} wf x live =
   where
     z : x ≢ 0
     z = alive-pos its x live
+
     go : (i : ℕ) → Dec (i ≡ x) → mark x (there (dissolve x its)) i ≡ there its i
     go i (yes e) = ap (λ b. b || there (dissolve x its) i) (eq-eqb i x e) ∙ sym (ap (there its) e ∙ alive-there its x live)
     go i (no e) = ap (λ b. b || there (dissolve x its) i) (ne-eqb i x e) ∙ ap (λ k. not (eqb k 0)) (dissolve-same wf x z i e .kind)

@@ -44,11 +44,13 @@ done-of {permit} {k} {its} {c} {b} e r f =
     let f₁ = and-left _ (permit k (at its (parentOf its c) .label) (at its b .label)) f in
     let f₂ = and-left _ (stands k its (parentOf its c) b) f₁ in
     record {
-      cap = e; isReady = r;
+      cap = e;
+      isReady = r;
       amb = and-left _ (eqb (at its b .name) (at its c .name)) f₂;
       name = eqb-true _ _ (and-right (isAmbient (at its b)) _ f₂);
       stand = and-right (isAmbient (at its b) && eqb (at its b .name) (at its c .name)) _ f₁;
-      right = and-right (isAmbient (at its b) && eqb (at its b .name) (at its c .name) && stands k its (parentOf its c) b) _ f }
+      right = and-right (isAmbient (at its b) && eqb (at its b .name) (at its c .name) && stands k its (parentOf its c) b) _ f;
+    }
 
 -- a step that is met
 pub outcome-done : {permit : Permit} {its : List Rec} {c b : ℕ} (k : Capability) → outcome permit its c b ≡ met k → Done permit k its c b
@@ -59,6 +61,7 @@ outcome-done {permit} {its} {c} {b} k = go (capability (at its c .kind)) refl
     tests j e false f p q w = let u : _≡_ {A = ℕ} 0 1 = cc in absurd (omega arith)
     tests j e true false p q w = let u : _≡_ {A = ℕ} 0 1 = cc in absurd (omega arith)
     tests j e true true p q w = let u : j ≡ k = cc in subst (λ x. Done permit x its c b) u (done-of e p q)
+
     go : (o : Option Capability) → capability (at its c .kind) ≡ o → outcomeBy permit o its c b ≡ met k → Done permit k its c b
     go none e w = let u : _≡_ {A = ℕ} 0 1 = cc in absurd (omega arith)
     go (some j) e w = tests j e (ready j its (parentOf its c)) (fit permit j its c b) refl refl w
@@ -112,10 +115,13 @@ module _ {permit : Permit} {its : List Rec} {c b : ℕ} (wf : WellFormed its) wh
       where
         q : ℕ
         q = parentOf its c
+
         bz : b ≢ 0
         bz = alive-pos its b (amb-alive its b (d .amb))
+
         w : (e : ℕ) × (wf .reach (parentOf its c) .0 ≡ suc e) × Depth (parentOf its) (parentOf its (parentOf its c)) e
         w = above (wf .reach (parentOf its c) .1) (alive-pos its _ in-live)
+
         high : Depth (parentOf (place (parentOf its c) b its)) (parentOf its (parentOf its c)) (w .0)
         high = place-high wf (parentOf its c) b in-live (wf .reach (parentOf its c) .1) (w .2) (omega (arith, w .1))
 
@@ -137,12 +143,16 @@ module _ {permit : Permit} {its : List Rec} {c b : ℕ} (wf : WellFormed its) wh
       where
         bz : b ≢ 0
         bz = alive-pos its b (amb-alive its b (d .amb))
+
         w : (e : ℕ) × (wf .reach (parentOf its c) .0 ≡ suc e) × Depth (parentOf its) (parentOf its (parentOf its c)) e
         w = above (wf .reach (parentOf its c) .1) (alive-pos its _ out-live)
+
         u : Depth (parentOf its) b (w .0)
         u = subst (λ j. Depth (parentOf its) j (w .0)) (sym out-above) (w .2)
+
         v : (e : ℕ) × (w .0 ≡ suc e) × Depth (parentOf its) (parentOf its b) e
         v = above u bz
+
         high : Depth (parentOf (place (parentOf its c) (parentOf its b) its)) (parentOf its b) (v .0)
         high = place-high wf (parentOf its c) (parentOf its b) out-live (wf .reach (parentOf its c) .1) (v .2) (omega (arith, w .1, v .1))
 
@@ -193,7 +203,6 @@ module _ {permit : Permit} {its : List Rec} (wf : WellFormed its) {c b : ℕ} wh
   pub move-wf : (k : Capability) → Done permit k its c b → WellFormed (move k its c b)
   move-wf k d = rw (move-first k its c b) (dissolve-wf (first-wf k d) c (cap-pos k d))
 
-
 pub move-length : (k : Capability) (its : List Rec) (c b : ℕ) → length (move k its c b) ≡ length its
 unfolding move
 move-length cap-in its c b = simp (dissolve-length, place-length)
@@ -225,6 +234,7 @@ step-valid permit s c b v = go (outcome permit (records s) c b) refl
   where
     size : length (records s) ≤ 1024
     size = omega (arith, length-records s, size-le s (passed s v .size))
+
     go : (o : Outcome) → outcome permit (records s) c b ≡ o → validity (rewritten o s c b) ≡ pass
     go (unmet n) e = v
     go (met k) e = wf-valid (move-wf (valid-wf s v) k (outcome-done k e)) (omega (arith, move-length k (records s) c b, size))

@@ -116,6 +116,7 @@ module _ (t f : ℕ → Bool) where
     where
       up : (x : ℕ) × (x < n) × (t x ≡ true) × (f x ≡ true) → (x : ℕ) × (x < suc n) × (t x ≡ true) × (f x ≡ true)
       up w = (w .0, omega (arith, w .1), w .2, w .3)
+
       go : (a b : Bool) → t n ≡ a → f n ≡ b → (someOf n t f ≡ true → (x : ℕ) × (x < n) × (t x ≡ true) × (f x ≡ true)) → (x : ℕ) × (x < suc n) × (t x ≡ true) × (f x ≡ true)
       go false b p q ih = up (ih (sym (someOf-skip t f n p) ∙ h))
       go true true p q ih = (n, omega arith, p, q)

@@ -21,9 +21,10 @@ module _ (S : ℕ → Bool) where
   -- nothing is asked of what stands where
   hidings : Nesting (hiding S) _≡_ (λ x l. Unit {0})
   hidings = record {
-      order = record { same = λ x s. hides-same s S x; rr = λ a. refl; tr = λ p q. p ∙ q };
-      through = λ r x e. hides-other r S x (suspect-not-amb r S e);
-      more = λ x y l m h u. u }
+    order = record { same = λ x s. hides-same s S x; rr = λ a. refl; tr = λ p q. p ∙ q };
+    through = λ r x e. hides-other r S x (suspect-not-amb r S e);
+    more = λ x y l m h u. u;
+  }
 
   hiding-mono : (its : List Rec) → WellFormed its → Nest (hiding S) (λ x l. Unit {0}) its → Mono (hiding S) _≡_ its
   hiding-mono its wf nest i y h = ap (hides S (at its i)) h
@@ -39,10 +40,16 @@ module _ {permit : Permit} {policy : List ℕ} {its : List Rec} {T : Table} (wf 
       go false e = ap (hides (T .S) (at its y)) (f e)
 
   hiding-gives : (k : Capability) → Done permit k its c b → Gives (hiding (T .S)) _≡_ (λ x l. Unit {0}) k its c b
-  hiding-gives cap-in d = (tt, by-suspect b (parentOf its c) _ _ (in-holder wf d) (ruled wf holds c b cap-in d .1)
-      (λ e. sym (hidden-cross wf (T .S) b (d .amb) e ∙ ap (hidden its (T .S)) (in-beside wf d))))
-  hiding-gives cap-out d = (tt, by-suspect b (parentOf its c) _ _ (out-holder wf d) (ruled wf holds c b cap-out d .1)
-      (λ e. ap (hidden its (T .S)) (sym (out-above wf d)) ∙ hidden-cross wf (T .S) b (d .amb) e))
+  hiding-gives cap-in d = (
+    tt,
+    by-suspect b (parentOf its c) _ _ (in-holder wf d) (ruled wf holds c b cap-in d .1)
+        (λ e. sym (hidden-cross wf (T .S) b (d .amb) e ∙ ap (hidden its (T .S)) (in-beside wf d))),
+  )
+  hiding-gives cap-out d = (
+    tt,
+    by-suspect b (parentOf its c) _ _ (out-holder wf d) (ruled wf holds c b cap-out d .1)
+        (λ e. ap (hidden its (T .S)) (sym (out-above wf d)) ∙ hidden-cross wf (T .S) b (d .amb) e),
+  )
   hiding-gives cap-open d = go (T .S (at its b .label)) refl
     where
       go : (t : Bool) → T .S (at its b .label) ≡ t → hidden its (T .S) b ≡ hidden its (T .S) (parentOf its b)

@@ -72,19 +72,19 @@ module _ (permit : Permit) (T : Table) where
   unfolding ruleHolds
   rule-complete cap-in t n f =
       every-make _ _ _ (λ a la ia. every-make _ _ _ (λ p lp ipa. every-make _ _ _ (λ b lb q.
-        let hb = and-right (T .I p b) _ q in
-        let w = f a b p la lb lp (and-right (T .H b n) _ hb) ia ipa (and-left _ _ q) (and-left _ _ hb) in
-        and-make (w .0) (onlyIf-make _ _ (w .1)))))
+      let hb = and-right (T .I p b) _ q in
+      let w = f a b p la lb lp (and-right (T .H b n) _ hb) ia ipa (and-left _ _ q) (and-left _ _ hb) in
+      and-make (w .0) (onlyIf-make _ _ (w .1)))))
   rule-complete cap-out t n f =
       every-make _ _ _ (λ a la ia. every-make _ _ _ (λ b lb q. every-make _ _ _ (λ p lp ipb.
-        let hb = and-right (T .I b a) _ q in
-        let w = f a b p la lb lp (and-right (T .H b n) _ hb) ia (and-left _ _ q) ipb (and-left _ _ hb) in
-        and-make (w .0) (onlyIf-make _ _ (w .1)))))
+      let hb = and-right (T .I b a) _ q in
+      let w = f a b p la lb lp (and-right (T .H b n) _ hb) ia (and-left _ _ q) ipb (and-left _ _ hb) in
+      and-make (w .0) (onlyIf-make _ _ (w .1)))))
   rule-complete cap-open t n f =
       every-make _ _ _ (λ p lp ip. every-make _ _ _ (λ b lb r.
-        let hb = and-right (T .I p b) _ r in
-        let w = f b p lb lp (and-right (T .H b n) _ hb) ip (and-left _ _ r) (and-left _ _ hb) in
-        and-make (every-make _ _ _ (w .0)) (onlyIf-make _ _ (w .1))))
+      let hb = and-right (T .I p b) _ r in
+      let w = f b p lb lp (and-right (T .H b n) _ hb) ip (and-left _ _ r) (and-left _ _ hb) in
+      and-make (every-make _ _ _ (w .0)) (onlyIf-make _ _ (w .1))))
 
   rules-sound : (o : Option Capability) (r : Rec) → rulesHold permit T o r ≡ true → (k : Capability) → o ≡ some k → Rule permit T k (r .label) (r .name)
   unfolding rulesHold
@@ -104,7 +104,8 @@ module _ (permit : Permit) (T : Table) where
       record {
         nest = λ _. and-left _ _ h;
         names = onlyIf-use _ _ (and-left _ _ w);
-        rules = rules-sound (capability (r .kind)) r (and-right (onlyIf (isAmbient r) (T .H (r .label) (r .name))) _ w) }
+        rules = rules-sound (capability (r .kind)) r (and-right (onlyIf (isAmbient r) (T .H (r .label) (r .name))) _ w);
+      }
 
   pub fits-complete : (c : ℕ) (r : Rec) → nested r ≡ true → Fits permit T c r → recordHolds permit T c r ≡ true
   unfolding recordHolds
@@ -113,9 +114,10 @@ module _ (permit : Permit) (T : Table) where
 -- a record that no table speaks of fits anywhere
 pub fits-other : {permit : Permit} {T : Table} {c : ℕ} {r : Rec} → nested r ≡ false → Fits permit T c r
 fits-other {r = r} e = record {
-    nest = λ h. absurd (true≢false (sym h ∙ e));
-    names = λ h. absurd (true≢false (sym (amb-nested r h) ∙ e));
-    rules = λ k h. absurd (true≢false (sym (cap-nested r k h) ∙ e)) }
+  nest = λ h. absurd (true≢false (sym h ∙ e));
+  names = λ h. absurd (true≢false (sym (amb-nested r h) ∙ e));
+  rules = λ k h. absurd (true≢false (sym (cap-nested r k h) ∙ e));
+}
 
 module _ (permit : Permit) (policy : List ℕ) (its : List Rec) (T : Table) where
   -- `holds` says what it says of every record and every label

@@ -60,11 +60,13 @@ module _ {u v : ℕ → Bool} (same : Agree u v) where
 
   pub holds-agree : (permit : Permit) (policy : List ℕ) {its : List Rec} → WellFormed its → Holds permit policy its (parts u) → Holds permit policy its (parts v)
   holds-agree permit policy {its} wf h = record {
-      fits = λ i. record {
-        nest = λ n. sym (agree-I (container its i) (at its i .label) (container-small wf i) (labels wf i)) ∙ h .fits i .nest n;
-        names = λ e. sym (agree-H (at its i .label) (at its i .name) (small wf i e) (named wf i)) ∙ h .fits i .names e;
-        rules = λ k e. rule-agree permit k (at its i .label) (at its i .name) (labels wf i) (named wf i) (h .fits i .rules k e) };
-      high = λ k l e. sym (agree-S k l) ∙ h .high k l e }
+    fits = λ i. record {
+      nest = λ n. sym (agree-I (container its i) (at its i .label) (container-small wf i) (labels wf i)) ∙ h .fits i .nest n;
+      names = λ e. sym (agree-H (at its i .label) (at its i .name) (small wf i e) (named wf i)) ∙ h .fits i .names e;
+      rules = λ k e. rule-agree permit k (at its i .label) (at its i .name) (labels wf i) (named wf i) (h .fits i .rules k e);
+    };
+    high = λ k l e. sym (agree-S k l) ∙ h .high k l e;
+  }
 
 module _ (permit : Permit) (policy : List ℕ) (its : List Rec) where
   -- the set of bits of the least table
@@ -89,24 +91,29 @@ module _ (permit : Permit) (policy : List ℕ) (its : List Rec) where
   inside-least n b p f k lk i = from-least _ (λ c l h. f c l h k lk (of-least c l h _ i))
 
   rule-least : (i : ℕ) (k : Capability) → capability (at its i .kind) ≡ some k → Rule permit (parts leastSet) k (at its i .label) (at its i .name)
-  rule-least i cap-in e = λ a b p la lb lp may ia ipa ipb hb.
-      (from-least _ (λ c l h. fits-in c h .fits i .rules cap-in e a b p la lb lp may (of-least c l h _ ia) (of-least c l h _ ipa) (of-least c l h _ ipb) (of-least c l h _ hb) .0),
-       infects-least _ _ (λ c l h. fits-in c h .fits i .rules cap-in e a b p la lb lp may (of-least c l h _ ia) (of-least c l h _ ipa) (of-least c l h _ ipb) (of-least c l h _ hb) .1))
-  rule-least i cap-out e = λ a b p la lb lp may ia iba ipb hb.
-      (from-least _ (λ c l h. fits-in c h .fits i .rules cap-out e a b p la lb lp may (of-least c l h _ ia) (of-least c l h _ iba) (of-least c l h _ ipb) (of-least c l h _ hb) .0),
-       infects-least _ _ (λ c l h. fits-in c h .fits i .rules cap-out e a b p la lb lp may (of-least c l h _ ia) (of-least c l h _ iba) (of-least c l h _ ipb) (of-least c l h _ hb) .1))
-  rule-least i cap-open e = λ b p lb lp may ip ipb hb.
-      (inside-least _ _ _ (λ c l h. fits-in c h .fits i .rules cap-open e b p lb lp may (of-least c l h _ ip) (of-least c l h _ ipb) (of-least c l h _ hb) .0),
-       infects-least _ _ (λ c l h. fits-in c h .fits i .rules cap-open e b p lb lp may (of-least c l h _ ip) (of-least c l h _ ipb) (of-least c l h _ hb) .1))
+  rule-least i cap-in e = λ a b p la lb lp may ia ipa ipb hb. (
+    from-least _ (λ c l h. fits-in c h .fits i .rules cap-in e a b p la lb lp may (of-least c l h _ ia) (of-least c l h _ ipa) (of-least c l h _ ipb) (of-least c l h _ hb) .0),
+    infects-least _ _ (λ c l h. fits-in c h .fits i .rules cap-in e a b p la lb lp may (of-least c l h _ ia) (of-least c l h _ ipa) (of-least c l h _ ipb) (of-least c l h _ hb) .1),
+  )
+  rule-least i cap-out e = λ a b p la lb lp may ia iba ipb hb. (
+    from-least _ (λ c l h. fits-in c h .fits i .rules cap-out e a b p la lb lp may (of-least c l h _ ia) (of-least c l h _ iba) (of-least c l h _ ipb) (of-least c l h _ hb) .0),
+    infects-least _ _ (λ c l h. fits-in c h .fits i .rules cap-out e a b p la lb lp may (of-least c l h _ ia) (of-least c l h _ iba) (of-least c l h _ ipb) (of-least c l h _ hb) .1),
+  )
+  rule-least i cap-open e = λ b p lb lp may ip ipb hb. (
+    inside-least _ _ _ (λ c l h. fits-in c h .fits i .rules cap-open e b p lb lp may (of-least c l h _ ip) (of-least c l h _ ipb) (of-least c l h _ hb) .0),
+    infects-least _ _ (λ c l h. fits-in c h .fits i .rules cap-open e b p lb lp may (of-least c l h _ ip) (of-least c l h _ ipb) (of-least c l h _ hb) .1),
+  )
 
   -- the rules have one conclusion each, so what all tables that hold have in common holds too
   pub least-holds : Holds permit policy its (parts leastSet)
   least-holds = record {
-      fits = λ i. record {
-        nest = λ n. from-least _ (λ c _ h. fits-in c h .fits i .nest n);
-        names = λ e. from-least _ (λ c _ h. fits-in c h .fits i .names e);
-        rules = rule-least i };
-      high = λ k l e. from-least _ (λ c _ h. fits-in c h .high k l e) }
+    fits = λ i. record {
+      nest = λ n. from-least _ (λ c _ h. fits-in c h .fits i .nest n);
+      names = λ e. from-least _ (λ c _ h. fits-in c h .fits i .names e);
+      rules = rule-least i;
+    };
+    high = λ k l e. from-least _ (λ c _ h. fits-in c h .high k l e);
+  }
 
 module _ (permit : Permit) (policy : List ℕ) {its : List Rec} (wf : WellFormed its) where
   -- it lies inside every set that holds
@@ -136,6 +143,7 @@ module _ (permit : Permit) (policy : List ℕ) {its : List Rec} (wf : WellFormed
     where
       up : (j : ℕ) → j < 12352 → bits t j ≡ true → leastSet permit policy its j ≡ true
       up j l b = from-least permit policy its j (λ c _ g. f (testBit c) (fits-in permit policy its c g) j l b)
+
       both : (a b : Bool) → (a ≡ true → b ≡ true) → (b ≡ true → a ≡ true) → a ≡ b
       both true b p q = sym (p refl)
       both false true p q = absurd (true≢false (sym (q refl)))
@@ -184,11 +192,13 @@ module _ where
 module _ (permit : Permit) (policy : List ℕ) {its : List Rec} (wf : WellFormed its) where
   pub widest-holds : Holds permit policy its (parts widest)
   widest-holds = record {
-      fits = λ i. record {
-        nest = λ n. wide-in (container its i) (at its i .label) (container-small wf i) (labels wf i) (label-pos wf i n);
-        names = λ e. wide-H (at its i .label) (at its i .name) (label-pos wf i (amb-nested _ e));
-        rules = λ k e. wide-rule permit k (at its i .label) (at its i .name) };
-      high = λ k l e. wide-S k }
+    fits = λ i. record {
+      nest = λ n. wide-in (container its i) (at its i .label) (container-small wf i) (labels wf i) (label-pos wf i n);
+      names = λ e. wide-H (at its i .label) (at its i .name) (label-pos wf i (amb-nested _ e));
+      rules = λ k e. wide-rule permit k (at its i .label) (at its i .name);
+    };
+    high = λ k l e. wide-S k;
+  }
 
   off : (j : ℕ) → j < 12352 → widest j ≡ false → bits (leastTable permit policy its) j ≡ false
   off j l e = go (bits (leastTable permit policy its) j) refl
@@ -213,5 +223,6 @@ module _ (permit : Permit) (policy : List ℕ) {its : List Rec} (wf : WellFormed
     where
       below-I : (a : ℕ) → a < 64 → placeI a 0 < 12352
       below-I a l = omega arith
+
       below-H : (n : ℕ) → n < 64 → placeH 0 n < 12352
       below-H n l = omega arith

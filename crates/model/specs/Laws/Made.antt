@@ -32,6 +32,7 @@ unfolding makeAnswer makeAfter making content
 make-done s policy table n h =
     let c : making s policy table ≡ pass = answer-done (making s policy table) _ n h in
     let a = then-pass _ _ c in
-    let b = then-pass _ _ (a .1) in
-    (rw (c, content) (made-accepted s policy (a .0) (need-pass _ 7 0 (b .0))),
-     rw (c, content) (sym (answer-value (making s policy table) (total (leastTable free policy (records s))) n h)))
+    let b = then-pass _ _ (a .1) in (
+      rw (c, content) (made-accepted s policy (a .0) (need-pass _ 7 0 (b .0))),
+      rw (c, content) (sym (answer-value (making s policy table) (total (leastTable free policy (records s))) n h)),
+    )

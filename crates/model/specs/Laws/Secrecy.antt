@@ -49,7 +49,8 @@ accepted s policy table h =
       valid = a .0;
       policy-right = need-pass _ 7 0 (b .0);
       table-right = need-pass _ 8 0 (c .0);
-      holding = holds-sound free policy (records s) _ (need-pass _ 9 0 (c .1)) }
+      holding = holds-sound free policy (records s) _ (need-pass _ 9 0 (c .1));
+    }
 
 pub accept : (s policy table : List ℕ) → Accepted s policy table → checkAnswer s policy table ≡ done tt
 unfolding checkAnswer checking answer
@@ -79,8 +80,9 @@ pub record Guarding (permit : Permit) (policy : List ℕ) (T : Table) (s : List 
 module _ {permit : Permit} {policy : List ℕ} {T : Table} where
   pub guarding-step : (s : List ℕ) → Guarding permit policy T s → (c b : ℕ) → Guarding permit policy T (stepBytes permit s c b)
   guarding-step s w c b = record {
-      valid = step-valid permit s c b (w .valid);
-      holding = rw (step-records permit s c b) (step-holds (valid-wf s (w .valid)) (w .holding) c b) }
+    valid = step-valid permit s c b (w .valid);
+    holding = rw (step-records permit s c b) (step-holds (valid-wf s (w .valid)) (w .holding) c b);
+  }
 
   pub guarding-orders : (ms : List Order) (s : List ℕ) → Guarding permit policy T s → Guarding permit policy T (afterOrders permit s ms)
   unfolding afterOrders
@@ -129,36 +131,48 @@ pub noninterference : (policy table x y : List ℕ) → length x ≡ length y �
     sheetOf x table ≡ sheetOf y table → (es : List Event) → Noninterference policy table x y es
 unfolding sheetOf before stepAt verdictAnswer
 noninterference policy table x y size hx hy v same es = record {
-    guarded = guard x ax;
-    guarded′ = guard y ay;
-    sheets = sheets-after es;
-    answers = λ n l on. answers-after n l on }
+  guarded = guard x ax;
+  guarded′ = guard y ay;
+  sheets = sheets-after es;
+  answers = λ n l on. answers-after n l on;
+}
   where
     T : Table
     T = parts (bits table)
+
     ax : Accepted x policy table
     ax = accepted x policy table hx
+
     ay : Accepted y policy table
     ay = accepted y policy table hy
+
     z : Closed T policy
     z = sealed-closed T policy (answer-value (checking x policy table) _ Sealed v)
+
     clear : T .S 0 ≡ false
     clear = environment-clear z
+
     sx : Guarding free policy T x
     sx = record { valid = ax .valid; holding = ax .holding }
+
     sy : Guarding free policy T y
     sy = record { valid = ay .valid; holding = ay .holding }
+
     guard : (s : List ℕ) → Accepted s policy table → SuspectsGuarded policy table (after s es)
     guard s a i e h =
         let w = accepted (after s es) policy table (accepted-after es s policy table (accept s policy table a)) in
         let g = suspect-guarded z (policy-low policy (a .policy-right)) (valid-wf (after s es) (w .valid)) (w .holding) i e h in
         (g .0, (g .1, g .2))
+
     same′ : sheet (records x) (T .S) ≡ sheet (records y) (T .S)
     same′ = sym (sheet-records x table) ∙ ap records same ∙ sheet-records y table
+
     sheets-at : (ms : List Order) → sheetOf (afterOrders free x ms) table ≡ sheetOf (afterOrders free y ms) table
     sheets-at ms = ap encode (sheets-same clear x y sx sy same′ ms)
+
     sheets-after : (es : List Event) → sheetOf (after x es) table ≡ sheetOf (after y es) table
     sheets-after es = ap (λ s. sheetOf s table) (after-steps es x (ax .valid)) ∙ sheets-at (allSteps es) ∙ sym (ap (λ s. sheetOf s table) (after-steps es y (ay .valid)))
+
     answers-after : (n : ℕ) → n < length (allSteps es) → OnSheet table (before x es n) (stepAt es n .actor) → getD (given x es) n 0 ≡ getD (given y es) n 0
     answers-after n l on =
         let ms = allSteps es in

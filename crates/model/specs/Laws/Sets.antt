@@ -75,15 +75,15 @@ numeral-same u v j (suc n) h = rw (h j (omega arith) (omega arith), numeral-same
 pub bytes-same : (n : ℕ) (u v : ℕ → Bool) → ((j : ℕ) → j < 8 * n → u j ≡ v j) → bytes n u ≡ bytes n v
 bytes-same n u v h = ext-getD 0 _ _ (length-bytes u n ∙ sym (length-bytes v n))
     (λ i l. let m : i < n = omega (arith, length-bytes u n) in
-        byte-bytes u n i m ∙ numeral-same u v (8 * i) 8 (λ k a b. h k (omega arith)) ∙ sym (byte-bytes v n i m))
+    byte-bytes u n i m ∙ numeral-same u v (8 * i) 8 (λ k a b. h k (omega arith)) ∙ sym (byte-bytes v n i m))
 
 -- a list of bytes is the bytes of its bits
 pub bytes-bits : (n : ℕ) (t : List ℕ) → length t ≡ n → Narrow 8 t → t ≡ bytes n (bits t)
 unfolding bitAt
 bytes-bits n t e h = ext-getD 0 _ _ (e ∙ sym (length-bytes (bits t) n))
     (λ i l. let m : i < n = omega arith in
-        bits-ext 8 (byte t i) (numeral (bits t) (8 * i) 8) (h i) (numeral-lt (bits t) (8 * i) 8) (λ k. each i k (decLt k 8))
-        ∙ sym (byte-bytes (bits t) n i m))
+    bits-ext 8 (byte t i) (numeral (bits t) (8 * i) 8) (h i) (numeral-lt (bits t) (8 * i) 8) (λ k. each i k (decLt k 8))
+    ∙ sym (byte-bytes (bits t) n i m))
   where
     each : (i k : ℕ) → Dec (k < 8) → testBit (byte t i) k ≡ testBit (numeral (bits t) (8 * i) 8) k
     each i k (yes l) =

@@ -104,13 +104,15 @@ module _ {its : List Rec} (wf : WellFormed its) (S : ℕ → Bool) where
   pub sheet-wf : WellFormed (sheet its S)
   unfolding shape nested labelBy nameBy labelRight kindRight nameRight
   sheet-wf = record {
-      parents = λ i. by-hidden i (λ h n. absurd (n (ap (λ r. r .parent) (sheet-hidden its S i h)))) (λ h n. par i h n);
-      gones = λ i. by-hidden i (λ h _. sheet-hidden its S i h) (λ h e. sheet-shown its S i h ∙ wf .gones i (rw (sheet-shown its S i h) at e));
-      shaped = λ i. by-hidden i (λ h. ap shape (sheet-hidden its S i h)) (λ h. ap shape (sheet-shown its S i h) ∙ wf .shaped i);
-      reach = λ i. by-hidden i (λ h. (1, under-of (pos i h) (ap (λ r. r .parent) (sheet-hidden its S i h)) root)) (λ h. (wf .reach i .0, sheet-depth (wf .reach i .1) h)) }
+    parents = λ i. by-hidden i (λ h n. absurd (n (ap (λ r. r .parent) (sheet-hidden its S i h)))) (λ h n. par i h n);
+    gones = λ i. by-hidden i (λ h _. sheet-hidden its S i h) (λ h e. sheet-shown its S i h ∙ wf .gones i (rw (sheet-shown its S i h) at e));
+    shaped = λ i. by-hidden i (λ h. ap shape (sheet-hidden its S i h)) (λ h. ap shape (sheet-shown its S i h) ∙ wf .shaped i);
+    reach = λ i. by-hidden i (λ h. (1, under-of (pos i h) (ap (λ r. r .parent) (sheet-hidden its S i h)) root)) (λ h. (wf .reach i .0, sheet-depth (wf .reach i .1) h));
+  }
     where
       par : (i : ℕ) → hidden its S i ≡ false → parentOf (sheet its S) i ≢ 0 → Alive (sheet its S) (parentOf (sheet its S) i)
       par i h n = rw (sheet-parent i h, sheet-shown its S (parentOf its i) (shown-parent i h)) (wf .parents i (rw (sheet-parent i h) at n))
+
       pos : (i : ℕ) → hidden its S i ≡ true → i ≢ 0
       pos i h e = true≢false (sym h ∙ ap (hidden its S) e ∙ hidden-root wf S)
 
@@ -130,6 +132,7 @@ module _ {hid : ℕ → Bool} {l s : List Rec} (sh : Shows hid l s) where
       shown′ i h (itself e q) = ap (at (dissolve x s)) e ∙ dissolve-self x s z ∙ sym q
       shown′ i h (moved e f q) = dissolve-moved x s z i e (shows-parent i h ∙ f) ∙ rw (shows-parent x hx, sh .shown i h) (sym q)
       shown′ i h (stays e f q) = dissolve-stays x s z i e (λ u. f (sym (shows-parent i h) ∙ u)) ∙ sh .shown i h ∙ sym q
+
       lost′ : (i : ℕ) → hid i ≡ true → Out s x i → at (dissolve x s) i ≡ gone
       lost′ i h (itself e q) = q
       lost′ i h (moved e f q) = absurd (z (sym f ∙ ap (λ r. r .parent) (sh .lost i h)))
@@ -137,11 +140,13 @@ module _ {hid : ℕ → Bool} {l s : List Rec} (sh : Shows hid l s) where
 
   shows-put : (a t : ℕ) → Alive l a → hid a ≡ false → Shows hid (place a t l) (place a t s)
   shows-put a t live ha = record {
-      shown = λ i h. go i h (ℕ-discrete i a);
-      lost = λ i h. place-other a t s i (λ e. true≢false (sym h ∙ ap hid e ∙ ha)) ∙ sh .lost i h }
+    shown = λ i h. go i h (ℕ-discrete i a);
+    lost = λ i h. place-other a t s i (λ e. true≢false (sym h ∙ ap hid e ∙ ha)) ∙ sh .lost i h;
+  }
     where
       live′ : Alive s a
       live′ = rw (sh .shown a ha) live
+
       go : (i : ℕ) → hid i ≡ false → Dec (i ≡ a) → at (place a t s) i ≡ at (place a t l) i
       go i h (yes e) = rw (e, place-self a t s (alive-pos s a live′) (alive-in s a live′), sh .shown a ha) (sym (place-self a t l (alive-pos l a live) (alive-in l a live)))
       go i h (no e) = place-other a t s i e ∙ sh .shown i h ∙ sym (place-other a t l i e)
@@ -192,6 +197,7 @@ module _ {permit : Permit} {policy : List ℕ} {T : Table} {its : List Rec} (wf 
     where
       hq : hidden its (T .S) (parentOf its c) ≡ false
       hq = shown-parent wf (T .S) c h
+
       go : (t : Bool) → T .S (at its b .label) ≡ t → hidden its (T .S) b ≡ false
       go true e = absurd (true≢false (sym (suspect-of _ (T .S) (in-holder wf d) (ruled wf holds c b cap-in d .1 e)) ∙ shown-not-sus wf (T .S) (parentOf its c) hq))
       go false e = hidden-cross wf (T .S) b (d .amb) e ∙ ap (hidden its (T .S)) (in-beside wf d) ∙ shown-parent wf (T .S) (parentOf its c) hq
@@ -200,6 +206,7 @@ module _ {permit : Permit} {policy : List ℕ} {T : Table} {its : List Rec} (wf 
     where
       hq : hidden its (T .S) (parentOf its c) ≡ false
       hq = shown-parent wf (T .S) c h
+
       go : (t : Bool) → T .S (at its b .label) ≡ t → hidden its (T .S) b ≡ false
       go true e = absurd (true≢false (sym (hidden-nearest wf (T .S) clear (parentOf its c) (ruled wf holds c b cap-open d .1 e)) ∙ hq))
       go false e = hidden-cross wf (T .S) b (d .amb) e ∙ ap (hidden its (T .S)) (open-beside wf d) ∙ hq
@@ -218,13 +225,17 @@ module _ {permit : Permit} {policy : List ℕ} {T : Table} {its : List Rec} (wf 
     where
       cz : c ≢ 0
       cz = alive-pos its c (cap-alive its c k (d .cap))
+
       bz : b ≢ 0
       bz = alive-pos its b (amb-alive its b (d .amb))
+
       sh : Shows (hidden its (T .S)) (move k its c b) (move k (sheet its (T .S)) c b)
       sh = shows-move k d h
+
       both : (i : ℕ) → Stays k c b i → (t : Bool) → hidden its (T .S) i ≡ t → at (sheet (move k its c b) (T .S)) i ≡ at (move k (sheet its (T .S)) c b) i
       both i st true e = sheet-hidden _ (T .S) i (sym (move-hidden wf holds clear c b k d i st) ∙ e) ∙ sym (sh .lost i e)
       both i st false e = sheet-shown _ (T .S) i (sym (move-hidden wf holds clear c b k d i st) ∙ e) ∙ sym (sh .shown i e)
+
       go : (i : ℕ) → Dec (Stays k c b i) → at (sheet (move k its c b) (T .S)) i ≡ at (move k (sheet its (T .S)) c b) i
       go i (yes st) = both i st (hidden its (T .S) i) refl
       go i (no st) = sheet-gone _ (T .S) i (move-gone its k i cz bz (done-other wf d) st) ∙ sym (move-gone (sheet its (T .S)) k i cz bz (done-other wf d) st)

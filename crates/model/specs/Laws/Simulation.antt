@@ -64,6 +64,7 @@ module _ {permit : Permit} {policy : List ℕ} {T : Table} {its : List Rec} (wf 
     where
       shown : (i : ℕ) → hidden its (T .S) i ≡ false → at (sheet (move k its c b) (T .S)) i ≡ at (sheet its (T .S)) i
       shown i h = let w = move-stays i h k d in sheet-shown _ (T .S) i (sym (move-hidden wf holds clear c b k d i (w .0)) ∙ h) ∙ w .1 ∙ sym (sheet-shown its (T .S) i h)
+
       lost : (i : ℕ) → hidden its (T .S) i ≡ true → Dec (Stays k c b i) → at (sheet (move k its c b) (T .S)) i ≡ at (sheet its (T .S)) i
       lost i h (yes st) = sheet-hidden _ (T .S) i (sym (move-hidden wf holds clear c b k d i st) ∙ h) ∙ sym (sheet-hidden its (T .S) i h)
       lost i h (no st) =
@@ -76,7 +77,7 @@ module _ {its : List Rec} (wf : WellFormed its) (S : ℕ → Bool) where
   same-ambients q h = fold-carry _≡_ refl (view-laws standing wf) (view-laws standing (sheet-wf wf S)) (λ i. hidden its S i ≡ false)
       (λ i n _. rw (sheet-parent wf S i n) (shown-parent wf S i n))
       (λ i n _ ih. ap (λ r. ambientAnd r (ambients its (parentOf its i))) (sym (sheet-shown its S i n))
-        ∙ ap (λ j. ambientAnd (at (sheet its S) i) (ambients its j)) (sym (sheet-parent wf S i n)) ∙ ap (ambientAnd (at (sheet its S) i)) ih) h (sheet-wf wf S .reach q .1)
+      ∙ ap (λ j. ambientAnd (at (sheet its S) i) (ambients its j)) (sym (sheet-parent wf S i n)) ∙ ap (ambientAnd (at (sheet its S) i)) ih) h (sheet-wf wf S .reach q .1)
 
   same-ready : (k : Capability) (q : ℕ) → hidden its S q ≡ false → ready k (sheet its S) q ≡ ready k its q
   unfolding ready
@@ -94,8 +95,13 @@ module _ {permit : Permit} {policy : List ℕ} {T : Table} {its : List Rec} (wf 
   fit-shown : (k : Capability) → hidden its (T .S) c ≡ false → hidden its (T .S) b ≡ false → fit permit k (sheet its (T .S)) c b ≡ fit permit k its c b
   unfolding fit
   fit-shown k hc hb =
-      rw (sheet-parent wf (T .S) c hc, sheet-shown its (T .S) c hc, sheet-shown its (T .S) b hb, sheet-shown its (T .S) (parentOf its c) (shown-parent wf (T .S) c hc),
-        same-stands wf (T .S) k (parentOf its c) b (shown-parent wf (T .S) c hc) hb)
+      rw (
+        sheet-parent wf (T .S) c hc,
+        sheet-shown its (T .S) c hc,
+        sheet-shown its (T .S) b hb,
+        sheet-shown its (T .S) (parentOf its c) (shown-parent wf (T .S) c hc),
+        same-stands wf (T .S) k (parentOf its c) b (shown-parent wf (T .S) c hc) hb,
+      )
 
   fit-gone : (k : Capability) → hidden its (T .S) b ≡ true → fit permit k (sheet its (T .S)) c b ≡ false
   unfolding fit isAmbient
@@ -115,9 +121,11 @@ module _ {permit : Permit} {policy : List ℕ} {T : Table} {its : List Rec} (wf 
     where
       hq : hidden its (T .S) (parentOf its c) ≡ false
       hq = shown-parent wf (T .S) c hc
+
       at-ready : (k : Capability) → capability (at its c .kind) ≡ some k → (t : Bool) → ready k its (parentOf its c) ≡ t → decide k t (fit permit k (sheet its (T .S)) c b) ≡ decide k t (fit permit k its c b)
       at-ready k e true r = ap (decide k true) (same-fit k hc e r)
       at-ready k e false r = refl
+
       go : (o : Option Capability) → capability (at its c .kind) ≡ o → outcomeBy permit o (sheet its (T .S)) c b ≡ outcomeBy permit o its c b
       go none e = refl
       go (some k) e = rw (sheet-parent wf (T .S) c hc, same-ready wf (T .S) k (parentOf its c) hq) (at-ready k e (ready k its (parentOf its c)) refl)
@@ -137,6 +145,7 @@ module _ {permit : Permit} {policy : List ℕ} {T : Table} {its : List Rec} (wf 
           go : (o : Outcome) → outcome permit its c b ≡ o → sheet (effect o its c b) (T .S) ≡ sheet its (T .S)
           go (unmet n) e = refl
           go (met k) e = hidden-move wf holds clear c b hc k (outcome-done k e)
+
       shown : hidden its (T .S) c ≡ false → sheet (effect (outcome permit its c b) its c b) (T .S) ≡ effect (outcome permit (sheet its (T .S)) c b) (sheet its (T .S)) c b
       shown hc = rw (same-outcome hc) (go (outcome permit its c b) refl)
         where

@@ -22,9 +22,10 @@ use Rattle.model.specs.declared.Rec.{Rec}
 module _ (I : ℕ → ℕ → Bool) where
   nestings : Nesting nesting (Sub I) (λ x l. I x l ≡ true)
   nestings = record {
-      order = record { same = λ x s. labelled-same s x; rr = λ a k m p. p; tr = λ p q k m t. q k m (p k m t) };
-      through = labelled-other;
-      more = λ x y l m h. h l m }
+    order = record { same = λ x s. labelled-same s x; rr = λ a k m p. p; tr = λ p q k m t. q k m (p k m t) };
+    through = labelled-other;
+    more = λ x y l m h. h l m;
+  }
 
   nesting-mono : (its : List Rec) → WellFormed its → Nest nesting (λ x l. I x l ≡ true) its → Mono nesting (Sub I) its
   nesting-mono its wf nest i y h = go (isAmbient (at its i)) refl
@@ -61,20 +62,26 @@ module _ {permit : Permit} {policy : List ℕ} {its : List Rec} {T : Table} (wf 
       (rw (d .name) at (holds .fits b .names (d .amb)))
 
   nesting-gives : (k : Capability) → Done permit k its c b → Gives nesting (Sub (T .I)) (λ x l. T .I x l ≡ true) k its c b
-  nesting-gives cap-in d = (rw (nearest-amb wf b (d .amb)) (ruled cap-in d .0),
-      rw (labelled-amb _ (container its (parentOf its c)) (in-holder wf d), labelled-amb _ (nearest its b) (in-holder wf d)) (λ k m p. p))
-  nesting-gives cap-out d = (ruled cap-out d .0,
-      rw (labelled-amb _ (container its (parentOf its c)) (out-holder wf d), labelled-amb _ (container its b) (out-holder wf d)) (λ k m p. p))
+  nesting-gives cap-in d = (
+    rw (nearest-amb wf b (d .amb)) (ruled cap-in d .0),
+    rw (labelled-amb _ (container its (parentOf its c)) (in-holder wf d), labelled-amb _ (nearest its b) (in-holder wf d)) (λ k m p. p),
+  )
+  nesting-gives cap-out d = (
+    ruled cap-out d .0,
+    rw (labelled-amb _ (container its (parentOf its c)) (out-holder wf d), labelled-amb _ (container its b) (out-holder wf d)) (λ k m p. p),
+  )
   nesting-gives cap-open d = rw (nearest-amb wf b (d .amb), open-beside wf d) (ruled cap-open d .0)
 
   pub move-holds : (k : Capability) → Done permit k its c b → Holds permit policy (move k its c b) T
   unfolding isAmbient
   move-holds k d = record {
-      fits = λ i. record {
-        nest = move-moved (nestings (T .I)) (nesting-mono (T .I)) wf (λ j n. holds .fits j .nest n) k d (nesting-gives k d) .nest i;
-        names = λ h. move-each wf (λ x l n. eqb x 1 ≡ true → T .H l n ≡ true) (λ j _. holds .fits j .names) k d i (amb-alive _ i h) h;
-        rules = λ j h. move-each wf (λ x l n. (e : Capability) → capability x ≡ some e → Rule permit T e l n) (λ x _. holds .fits x .rules) k d i (cap-alive _ i j h) j h };
-      high = holds .high }
+    fits = λ i. record {
+      nest = move-moved (nestings (T .I)) (nesting-mono (T .I)) wf (λ j n. holds .fits j .nest n) k d (nesting-gives k d) .nest i;
+      names = λ h. move-each wf (λ x l n. eqb x 1 ≡ true → T .H l n ≡ true) (λ j _. holds .fits j .names) k d i (amb-alive _ i h) h;
+      rules = λ j h. move-each wf (λ x l n. (e : Capability) → capability x ≡ some e → Rule permit T e l n) (λ x _. holds .fits x .rules) k d i (cap-alive _ i j h) j h;
+    };
+    high = holds .high;
+  }
 
 -- a step, done or refused, keeps a table that holds
 pub step-holds : {permit : Permit} {policy : List ℕ} {its : List Rec} {T : Table} → WellFormed its → Holds permit policy its T → (c b : ℕ) → Holds permit policy (step permit its c b) T

@@ -76,6 +76,7 @@ module _ {A : Type 0} {v : View A} {R : A → A → Type 0} (o : Ordered v R) {i
       where
         Low : ℕ → Type 0
         Low j = (d : ℕ) × (d ≤ wf′ .reach t .0) × Depth (parentOf (place a t its)) j d
+
         other : (j : ℕ) → Low j → j ≢ a
         other j w e = omega (arith, w .1, depth-unique (rw e at (w .2)) (under-of (alive-pos its a live) (place-parent wf a t live) (wf′ .reach t .1)))
 
@@ -158,25 +159,32 @@ module _ {A : Type 0} {v : View A} {R : A → A → Type 0} {In : A → ℕ → 
     {permit : Permit} {its : List Rec} (wf : WellFormed its) (nest : Nest v In its) {c b : ℕ} where
   first-moved : (k : Capability) → Done permit k its c b → Gives v R In k its c b → Moved v R In its (halfway k its c b) (Stays₁ k b)
   first-moved cap-in d g = record {
-      nest = put-nest (n .order) In (n .more) wf (mono its wf nest) nest (parentOf its c) b (in-live wf d) (in-place-wf wf d) (g .0) (g .1);
-      kept = λ i _. put-view (n .order) wf (mono its wf nest) (parentOf its c) b (in-live wf d) (in-place-wf wf d) (g .1) i }
+    nest = put-nest (n .order) In (n .more) wf (mono its wf nest) nest (parentOf its c) b (in-live wf d) (in-place-wf wf d) (g .0) (g .1);
+    kept = λ i _. put-view (n .order) wf (mono its wf nest) (parentOf its c) b (in-live wf d) (in-place-wf wf d) (g .1) i;
+  }
   first-moved cap-out d g = record {
-      nest = put-nest (n .order) In (n .more) wf (mono its wf nest) nest (parentOf its c) (parentOf its b) (out-live wf d) (out-place-wf wf d) (g .0) (g .1);
-      kept = λ i _. put-view (n .order) wf (mono its wf nest) (parentOf its c) (parentOf its b) (out-live wf d) (out-place-wf wf d) (g .1) i }
+    nest = put-nest (n .order) In (n .more) wf (mono its wf nest) nest (parentOf its c) (parentOf its b) (out-live wf d) (out-place-wf wf d) (g .0) (g .1);
+    kept = λ i _. put-view (n .order) wf (mono its wf nest) (parentOf its c) (parentOf its b) (out-live wf d) (out-place-wf wf d) (g .1) i;
+  }
   first-moved cap-open d g = record {
-      nest = out-nest (n .order) In (n .more) wf (mono its wf nest) nest b (partner-pos wf cap-open d) g;
-      kept = out-view (n .order) wf (mono its wf nest) b (partner-pos wf cap-open d) g }
+    nest = out-nest (n .order) In (n .more) wf (mono its wf nest) nest b (partner-pos wf cap-open d) g;
+    kept = out-view (n .order) wf (mono its wf nest) b (partner-pos wf cap-open d) g;
+  }
 
   pub move-moved : (k : Capability) → Done permit k its c b → Gives v R In k its c b → Moved v R In its (move k its c b) (Stays k c b)
   move-moved k d g = rw (move-first k its c b) (record {
-      nest = out-nest (n .order) In (n .more) wf₁ (mono _ wf₁ (m .nest)) (m .nest) c z cross;
-      kept = λ i s. let w = stays₁ k c b i s in n .order .tr (m .kept i (w .1)) (out-view (n .order) wf₁ (mono _ wf₁ (m .nest)) c z cross i (w .0)) })
+    nest = out-nest (n .order) In (n .more) wf₁ (mono _ wf₁ (m .nest)) (m .nest) c z cross;
+    kept = λ i s. let w = stays₁ k c b i s in n .order .tr (m .kept i (w .1)) (out-view (n .order) wf₁ (mono _ wf₁ (m .nest)) c z cross i (w .0));
+  })
     where
       m : Moved v R In its (halfway k its c b) (Stays₁ k b)
       m = first-moved k d g
+
       wf₁ : WellFormed (halfway k its c b)
       wf₁ = first-wf wf k d
+
       z : c ≢ 0
       z = cap-pos wf k d
+
       cross : R (view v (halfway k its c b) c) (view v (halfway k its c b) (parentOf (halfway k its c b) c))
       cross = rw (view-on v wf₁ c z, n .through _ (view v (halfway k its c b) (parentOf (halfway k its c b) c)) (first-cap wf k d)) (n .order .rr _)
