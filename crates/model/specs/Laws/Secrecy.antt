@@ -3,6 +3,7 @@ use Prim.Native.Nat.{_<_, ℕ}
 use borrow.Author.Tests.{eqb-true, ne-eqb}
 use lib.Dec.{eqb, leb}
 use lib.ListN.{getD, length, take}
+use lib.Pow.{high}
 use mathlib.Core.Bool.{false, true}
 use mathlib.Core.List.{List, [], _∷_}
 use mathlib.Core.Logic.{_≢_}
@@ -20,14 +21,14 @@ use Rattle.model.specs.Laws.Lists.{after-steps, answer-at, given-steps, 
 use Rattle.model.specs.Laws.Sheet.{by-hidden, sheet-hidden}
 use Rattle.model.specs.Laws.Simulation.{same-outcome, sheet-step}
 use Rattle.model.specs.Laws.SubjectReduction.{step-holds}
-use Rattle.model.specs.Laws.WellFormed.{and-right}
-use Rattle.model.specs.Noninterference.{Event, Noninterference, OnSheet, SuspectsGuarded, after, allSteps, before, given, stepAt}
+use Rattle.model.specs.Laws.WellFormed.{and-right, small}
+use Rattle.model.specs.Noninterference.{Event, Noninterference, OnSheet, SuspectsGuarded, UnderBoundary, after, allSteps, before, given, stepAt}
 use Rattle.model.specs.Observer.{sheet, sheetOf}
-use Rattle.model.specs.Records.{at, byte, encode, records}
+use Rattle.model.specs.Records.{at, byte, encode, isAmbient, records}
 use Rattle.model.specs.Refusals.{answer, done, pass}
 use Rattle.model.specs.Scripts.{Order, afterOrders}
 use Rattle.model.specs.Steps.{answerOf, outcome, step, stepBytes}
-use Rattle.model.specs.Tables.{Table, bits, isBoundary, parts, policyRight, suspects, tableRight}
+use Rattle.model.specs.Tables.{Table, bits, isBoundary, isHigh, parts, policyRight, suspects, tableRight}
 use Rattle.model.specs.Validity.{validity}
 use Rattle.model.specs.declared.Rec.{Rec}
 use Rattle.model.specs.declared.Verdict.the-variants.{Exposed, Hinted, Sealed}
@@ -182,3 +183,10 @@ noninterference policy table x y size hx hy v same es = record {
       where
         shown : at (sheet (records (afterOrders free x (take n (allSteps es)))) (T .S)) (stepAt es n .actor) .kind ≡ 0 → at (records (sheetOf (before x es n) table)) (stepAt es n .actor) .kind ≡ 0
         shown k = ap (λ s. at (records (sheetOf s table)) (stepAt es n .actor) .kind) (single-steps (take n (allSteps es)) x (ax .valid)) ∙ ap (λ l. at l (stepAt es n .actor) .kind) (sheet-records _ table) ∙ k
+
+-- "and so every high one": every high ambient has a boundary ambient above it too, after every list of events
+pub high-guarded : (policy table x y : List ℕ) (es : List Event) → checkAnswer x policy table ≡ done tt → Noninterference policy table x y es →
+    (i : ℕ) → isAmbient (at (records (after x es)) i) ≡ true → isHigh policy (at (records (after x es)) i .label) ≡ true → UnderBoundary policy (after x es) i
+high-guarded policy table x y es h w i e q =
+    let a = accepted (after x es) policy table (accepted-after es x policy table h) in
+    w .guarded i e (a .holding .high _ (small (valid-wf (after x es) (a .valid)) i e) q)
