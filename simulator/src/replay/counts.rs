@@ -1,0 +1,90 @@
+//! How often each call got each answer, and which answers must turn up.
+
+use super::stream::{Buffer, Buffers, Call};
+use crate::answer::Answer;
+use std::collections::BTreeMap;
+
+/// Counts by call, and by answer in words.
+#[derive(Clone, Debug, Default)]
+pub struct Counts {
+    by_answer: BTreeMap<(Call, String), usize>,
+}
+
+impl Counts {
+    /// Notes an answer, and what can be told apart among answers of number 0.
+    pub fn note(&mut self, call: Call, answer: &Answer, after: &Buffers) {
+        self.add(call, format!("{:2}", answer.number));
+        if answer.number != 0 {
+            return;
+        }
+        match call {
+            Call::Verdict => self.add_verdict(call, answer.values[0], answer.values[1]),
+            Call::Screen => self.add_verdict(call, answer.values[0] / 256, answer.values[0] % 256),
+            Call::Row if answer.values[1] == 0 => self.add(call, " 0 empty part".to_string()),
+            _ => {}
+        }
+        if matches!(call, Call::Run | Call::Screen) {
+            for step in after.get(Buffer::Answers) {
+                self.add(call, format!(" 0 with step answer {step}"));
+            }
+        }
+    }
+
+    fn add(&mut self, call: Call, answer: String) {
+        *self.by_answer.entry((call, answer)).or_default() += 1;
+    }
+
+    fn add_verdict(&mut self, call: Call, code: u16, label: u16) {
+        let word = match (code, label) {
+            (1, _) => "exposed",
+            (2, 0) => "hinted 0",
+            (2, _) => "hinted",
+            _ => "sealed",
+        };
+        self.add(call, format!(" 0 {word}"));
+    }
+
+    /// How many calls were made.
+    pub fn calls(&self) -> usize {
+        let whole = self.by_answer.iter().filter(|((_, answer), _)| answer.len() == 2);
+        whole.map(|(_, count)| count).sum()
+    }
+
+    pub fn lines(&self) -> Vec<String> {
+        let line = |((call, answer), count): (&(Call, String), &usize)| {
+            format!("{:<10}{:<28}{:>8}", format!("{call:?}").to_lowercase(), answer, count)
+        };
+        self.by_answer.iter().map(line).collect()
+    }
+
+    /// Answers that these calls can get and that never turned up.
+    pub fn missing(&self, calls: &[Call]) -> Vec<String> {
+        let wanted =
+            calls.iter().flat_map(|&call| reachable(call).into_iter().map(move |answer| (call, answer)));
+        let absent = wanted.filter(|key| !self.by_answer.contains_key(key));
+        absent.map(|(call, answer)| format!("{call:?} {answer}")).collect()
+    }
+}
+
+/// Every answer that the call can get.
+fn reachable(call: Call) -> Vec<String> {
+    let numbers: &[u8] = match call {
+        Call::Validate | Call::Container => &[],
+        Call::Sheet => &[8, 14],
+        Call::Step => &[10, 11, 12],
+        Call::Run => &[13],
+        Call::Check | Call::Verdict => &[7, 8, 9],
+        Call::Maker => &[7, 8],
+        Call::Row => return vec![" 0".to_string(), " 0 empty part".to_string()],
+        Call::Screen => &[7, 13],
+    };
+    let mut all: Vec<String> =
+        (0..=6).chain(numbers.iter().copied()).map(|number: u8| format!("{number:2}")).collect();
+    if matches!(call, Call::Verdict | Call::Screen) {
+        all.extend(["exposed", "hinted", "hinted 0", "sealed"].map(|word| format!(" 0 {word}")));
+    }
+    if matches!(call, Call::Run | Call::Screen) {
+        all.extend([0, 10, 11, 12].map(|step| format!(" 0 with step answer {step}")));
+    }
+    all
+}
