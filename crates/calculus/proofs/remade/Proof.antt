@@ -1,0 +1,21 @@
+-- `calculus::remade` meets its contract.
+use borrow.Author.Needs.{needs}
+use Rattle.calculus.specs.Moves.{remade}
+use Rattle.calculus.proofs.remade.Statement.{statement}
+use Rattle.calculus.proofs.remade.Tie as tie
+
+placed-requires : tie.Need-placed-requires
+placed-requires c κs = search needs
+
+dissolved-requires : tie.Need-dissolved-requires
+dissolved-requires c κs = search needs
+
+dissolved-requires-2 : tie.Need-dissolved-requires-2
+dissolved-requires-2 c κs = search needs
+
+returns : tie.Need-returns
+unfolding remade
+returns c = cc
+
+pub remade-spec : {M : Type 1} → statement M
+remade-spec = tie.close (tie.spec placed-requires dissolved-requires dissolved-requires-2 returns)

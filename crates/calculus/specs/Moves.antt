@@ -1,0 +1,63 @@
+-- A step that is decided, as the code holds it, and what it makes of each record.
+use Prim.Native.Nat.{_+_, ℕ}
+use lib.Dec.{eqb}
+use mathlib.Core.Bool.{Bool, _&&_, false, not, true}
+use mathlib.Core.List.{List}
+use Rattle.model.specs.Finite.{digit}
+use Rattle.model.specs.Records.{Capability, cap-in, cap-open, cap-out, isAmbient, parentOf, update}
+use Rattle.model.specs.Steps.{Outcome, dissolved, met, placed, unmet}
+use Rattle.model.specs.declared.Counts.{Counts}
+use Rattle.model.specs.declared.Rec.{Rec}
+use Rattle.calculus.specs.declared.Decision.{Decision}
+use Rattle.calculus.specs.declared.Decision.the-variants.{Do, Refused}
+use Rattle.calculus.specs.declared.Move.{Move}
+
+unfoldable pub capabilityBy : Bool → Bool → Capability
+capabilityBy true y = cap-in
+capabilityBy false true = cap-out
+capabilityBy false false = cap-open
+
+-- the capability of a kind from 2 to 4
+unfoldable pub capabilityOf : ℕ → Capability
+capabilityOf kind = capabilityBy (eqb kind 2) (eqb kind 3)
+
+-- where the partner b stands: c's record, that of c's parent and that of b
+unfoldable pub standsBy : Capability → Rec → Rec → Rec → ℕ → Bool
+standsBy cap-in c a p b = not (eqb b (c .parent)) && eqb (p .parent) (a .parent)
+standsBy cap-out c a p b = eqb b (a .parent)
+standsBy cap-open c a p b = eqb (p .parent) (c .parent)
+
+unfoldable pub fitBy : Capability → Rec → Rec → Rec → ℕ → Bool
+fitBy k c a p b = isAmbient p && eqb (p .name) (c .name) && standsBy k c a p b
+
+-- what a step that is done does, from the parents of c and b
+unfoldable pub moveBy : Capability → ℕ → ℕ → ℕ → ℕ → Move
+moveBy cap-in c b q t = record { actor = c; home = q; mover = q; dest = b; opened = c }
+moveBy cap-out c b q t = record { actor = c; home = q; mover = q; dest = t; opened = c }
+moveBy cap-open c b q t = record { actor = c; home = q; mover = 0; dest = 0; opened = b }
+
+unfoldable pub decisionBy : Outcome → List Rec → ℕ → ℕ → Decision
+decisionBy (unmet n) its c b = Refused n
+decisionBy (met k) its c b = Do (moveBy k c b (parentOf its c) (parentOf its b))
+
+-- record i after the step
+unfoldable pub remade : Move → ℕ → Rec → Rec
+remade m i r = dissolved (m .actor) (m .home) i (dissolved (m .opened) (m .home) i (placed (m .mover) (m .dest) i r))
+
+-- the records after the step
+unfoldable pub applied : Move → List Rec → List Rec
+applied m its = update (remade m) its
+
+-- the number of a decision's refusal, 0 where it is done
+unfoldable pub decisionNumber : Decision → ℕ
+decisionNumber (Do m) = 0
+decisionNumber (Refused n) = n
+
+-- the counts with one step more, by an actor of this kind and with this answer
+unfoldable pub counted : Counts → ℕ → ℕ → Counts
+counted c kind number =
+    record {
+      ins = c .ins + digit (eqb number 0 && eqb 2 kind);
+      outs = c .outs + digit (eqb number 0 && eqb 3 kind);
+      opens = c .opens + digit (eqb number 0 && eqb 4 kind);
+    }

@@ -1,0 +1,17 @@
+-- `itinerary::climbs` meets its contract.
+use borrow.Author.Needs.{needs}
+use Rattle.itinerary.specs.Laws.{unmarked}
+use Rattle.itinerary.proofs.climbs.Statement.{statement}
+use Rattle.itinerary.proofs.climbs.Tie as tie
+
+slice-aggregate-first-lost : tie.Need-slice-aggregate-first-lost
+slice-aggregate-first-lost c = search needs
+
+first-lost-requires : tie.Need-first-lost-requires
+first-lost-requires c κs = (unmarked (c .before .before .pre .0), c .before .before .pre .1)
+
+returns : tie.Need-returns
+returns c = search needs
+
+pub climbs-spec : {M : Type 1} → statement M
+climbs-spec = tie.close (tie.spec slice-aggregate-first-lost first-lost-requires returns)

@@ -1,0 +1,319 @@
+-- Laws of the definitions as the code goes through them.
+use Prim.Native.Nat.{_%_, _*_, _+_, _-_, _/_, _<_, _≤_, suc, zero, ℕ}
+use borrow.Author.Tests.{eq-eqb, leb-true, ne-eqb}
+use lib.Dec.{eqb, leb}
+use lib.ListN.{getD, length, length-replicate, replicate, set}
+use lib.Seq.{getD-set-other}
+use mathlib.Core.Bool.{Bool, _&&_, false, not, true, true≢false}
+use mathlib.Core.List.{List}
+use mathlib.Core.Logic.{_≢_}
+use mathlib.Core.Path.{_∙_, _≡_, ap, refl, sym}
+use native.Mathlib.Decide.{decLe, ℕ-discrete}
+use native.Mathlib.Omega.{arith}
+use Rattle.model.specs.Calls.{validateAnswer}
+use Rattle.model.specs.Climbing.{View, reaches, reaching, view, viewFrom}
+use Rattle.model.specs.Laws.Bytes.{at-whole, length-records, passed, size-le, size-whole, sound-record}
+use Rattle.model.specs.Laws.Checks.{answer-done, each-pass}
+use Rattle.model.specs.Laws.Forest.{Depth, depth-le, root, under-of}
+use Rattle.model.specs.Laws.Updates.{at-over, at-root}
+use Rattle.model.specs.Laws.Views.{depth-reaches, from-lost, from-on, from-top}
+use Rattle.model.specs.Laws.WellFormed.{and-left}
+use Rattle.model.specs.Numbers.{readingBy, readingOf, refusal, validatedAs}
+use Rattle.model.specs.Records.{at, byte, byteOf, count, decode, isAmbient, parentOf, records}
+use Rattle.model.specs.Refusals.{Check, andThen, answer, content, done, eachOf, need, pass, refuse, refused}
+use Rattle.model.specs.Validity.{climbCheck, labelRight, nameRight, parentRight, recordCheck, sizeRight, validity}
+use Rattle.model.specs.declared.Reading.the-variants.{Record, Refused}
+use Rattle.model.specs.declared.Rec.{Rec}
+use Rattle.model.specs.declared.Refusal.{Refusal}
+use Rattle.model.specs.declared.Validated.{Validated}
+use Rattle.model.specs.declared.Validated.the-variants.{Done as Good, Refused as Bad}
+use Rattle.itinerary.specs.Known.{Climbable, Found, Known, Parented, formRight}
+
+pub parent-right : (s : List ℕ) (p b : ℕ) → p ≢ 0 → b ≡ byteOf s p 0 → (leb p (length s / 8) && not (eqb b 0)) ≡ parentRight s p
+unfolding parentRight count
+parent-right s zero b h e = absurd (h refl)
+parent-right s (suc p) b h e = rw e
+
+pub byte-of : (s : List ℕ) (i k : ℕ) → i ≢ 0 → byteOf s i k ≡ byte s (8 * (i - 1) + k)
+unfolding byteOf
+byte-of s zero k h = absurd (h refl)
+byte-of s (suc i) k h = let e : i ≡ suc i - 1 = omega arith in ap (λ j. byte s (8 * j + k)) e
+
+-- reading record i: r is the record, and the tests before decided otherwise
+module _ (s : List ℕ) (i : ℕ) (r : Rec) (e : r ≡ decode s i) where
+  pub read-2 : formRight s i r ≡ false → readingOf s i ≡ Refused 2
+  unfolding readingOf readingBy recordCheck andThen need formRight
+  read-2 a = simp (← e, a)
+
+  pub read-3 : formRight s i r ≡ true → labelRight r ≡ false → readingOf s i ≡ Refused 3
+  unfolding readingOf readingBy recordCheck andThen need formRight
+  read-3 a b = simp (← e, a, b)
+
+  pub read-4 : formRight s i r ≡ true → labelRight r ≡ true → nameRight r ≡ false → readingOf s i ≡ Refused 4
+  unfolding readingOf readingBy recordCheck andThen need formRight
+  read-4 a b c = simp (← e, a, b, c)
+
+  pub read-5 : formRight s i r ≡ true → labelRight r ≡ true → nameRight r ≡ true → parentRight s (r .parent) ≡ false → readingOf s i ≡ Refused 5
+  unfolding readingOf readingBy recordCheck andThen need formRight
+  read-5 a b c d = simp (← e, a, b, c, d)
+
+  pub read-all : formRight s i r ≡ true → labelRight r ≡ true → nameRight r ≡ true → parentRight s (r .parent) ≡ true → readingOf s i ≡ Record r
+  unfolding readingOf readingBy recordCheck andThen need formRight
+  read-all a b c d = simp (← e, a, b, c, d)
+
+-- a check that refuses at i if at all
+unfoldable At : ℕ → Check → Type 0
+At i pass = Unit
+At i (refuse n j) = j ≡ i
+
+need-at : (b : Bool) (n i : ℕ) → At i (need b n i)
+unfolding At need
+need-at true n i = tt
+need-at false n i = refl
+
+then-at : (i : ℕ) (a b : Check) → At i a → At i b → At i (andThen a b)
+unfolding At andThen
+then-at i pass b p q = q
+then-at i (refuse n j) b p q = p
+
+record-at : (s : List ℕ) (i : ℕ) → At i (recordCheck s i)
+unfolding recordCheck
+record-at s i = then-at i _ _ (need-at _ 2 i) (then-at i _ _ (need-at _ 3 i) (then-at i _ _ (need-at _ 4 i) (need-at _ 5 i)))
+
+by-pass : (c : Check) (r r′ : Rec) → readingBy c r ≡ Record r′ → c ≡ pass
+unfolding readingBy
+by-pass pass r r′ h = refl
+by-pass (refuse n j) r r′ h = let u : _≡_ {A = ℕ} 0 1 = cc in absurd (omega arith)
+
+by-refuse : (i : ℕ) (c : Check) (r : Rec) (k : ℕ) → At i c → readingBy c r ≡ Refused k → c ≡ refuse k i
+unfolding readingBy At
+by-refuse i pass r k a h = let u : _≡_ {A = ℕ} 0 1 = cc in absurd (omega arith)
+by-refuse i (refuse n j) r k a h = cc
+
+pub reading-pass : (s : List ℕ) (i : ℕ) (r : Rec) → readingOf s i ≡ Record r → recordCheck s i ≡ pass
+unfolding readingOf
+reading-pass s i r h = by-pass (recordCheck s i) _ r h
+
+pub reading-refuse : (s : List ℕ) (i k : ℕ) → readingOf s i ≡ Refused k → recordCheck s i ≡ refuse k i
+unfolding readingOf
+reading-refuse s i k h = by-refuse i (recordCheck s i) _ k (record-at s i) h
+
+-- a pass over the records 1 to n, i of them passed: what is left decides
+module _ (check : ℕ → Check) where
+  abbrev pub Rest : ℕ → ℕ → Check
+  Rest n i = eachOf check (i + 1) (n - i)
+
+  pub rest-start : (n : ℕ) → eachOf check 1 n ≡ Rest n 0
+  rest-start n = let e : n ≡ n - 0 = omega arith in ap (eachOf check 1) e
+
+  opened : (n i : ℕ) → i < n → Rest n i ≡ andThen (check (i + 1)) (Rest n (i + 1))
+  unfolding eachOf
+  opened n i l =
+      let e : n - i ≡ suc (n - (i + 1)) = omega arith in
+      let f : suc (i + 1) ≡ i + 1 + 1 = omega arith in
+      ap (eachOf check (i + 1)) e ∙ ap (λ j. andThen (check (i + 1)) (eachOf check j (n - (i + 1)))) f
+
+  pub rest-next : (n i : ℕ) → i < n → check (i + 1) ≡ pass → Rest n i ≡ Rest n (i + 1)
+  unfolding andThen
+  rest-next n i l e = opened n i l ∙ ap (λ a. andThen a (Rest n (i + 1))) e
+
+  pub rest-refuse : (n i k j : ℕ) → i < n → check (i + 1) ≡ refuse k j → Rest n i ≡ refuse k j
+  unfolding andThen
+  rest-refuse n i k j l e = opened n i l ∙ ap (λ a. andThen a (Rest n (i + 1))) e
+
+  pub rest-end : (n i : ℕ) → n ≤ i → Rest n i ≡ pass
+  unfolding eachOf
+  rest-end n i l = let e : n - i ≡ 0 = omega arith in ap (eachOf check (i + 1)) e
+
+pub answer-pass : {A : Type 0} {c : Check} (x : A) → c ≡ pass → answer c x ≡ done x
+unfolding answer
+answer-pass x e = rw (e, answer)
+
+pub answer-refuse : {A : Type 0} {c : Check} {n i : ℕ} (x : A) → c ≡ refuse n i → answer c x ≡ refused n i
+unfolding answer
+answer-refuse x e = rw (e, answer)
+
+pub answer-refused : {A : Type 0} {n i : ℕ} (c : Check) (x : A) → answer c x ≡ refused n i → c ≡ refuse n i
+unfolding answer
+answer-refused pass x h = let u : _≡_ {A = ℕ} 0 1 = cc in absurd (omega arith)
+answer-refused (refuse n i) x h = cc
+
+-- the two answers of a call: refused, and done
+pub refuse-answer : {A : Type 0} {c : Check} (x : A) (r : Refusal) → c ≡ refuse (r .number) (r .record) → refusal r ≡ answer c x
+unfolding refusal
+refuse-answer x r e = sym (answer-refuse x e)
+
+pub done-answer : {A : Type 0} {c : Check} {x : A} (y : A) → c ≡ pass → x ≡ y → done x ≡ answer c y
+done-answer y e q = ap done q ∙ sym (answer-pass y e)
+
+-- checks in order, and what they leave of a buffer
+pub then-refuse : {a : Check} {n i : ℕ} (b : Check) → a ≡ refuse n i → andThen a b ≡ refuse n i
+unfolding andThen
+then-refuse b e = rw (e, andThen)
+
+pub then-next : {a : Check} (b : Check) → a ≡ pass → andThen a b ≡ b
+unfolding andThen
+then-next b e = rw (e, andThen)
+
+pub need-refuse : {b : Bool} (n i : ℕ) → b ≡ false → need b n i ≡ refuse n i
+unfolding need
+need-refuse n i e = rw e
+
+pub content-kept : {A : Type 0} {c : Check} {n i : ℕ} (x y : A) → c ≡ refuse n i → y ≡ content c x y
+unfolding content
+content-kept x y e = sym (rw (e, content))
+
+pub content-new : {A : Type 0} {c : Check} (x y : A) → c ≡ pass → x ≡ content c x y
+unfolding content
+content-new x y e = sym (rw (e, content))
+
+-- what the answer of a validation says of the check
+module _ (n : ℕ) (v : Validated) (c : Check) (h : validatedAs v ≡ answer c n) where
+  pub validated-pass : {m : ℕ} → v ≡ Good m → c ≡ pass
+  unfolding validatedAs
+  validated-pass {m} e = answer-done c n m (sym h ∙ ap validatedAs e)
+
+  pub validated-refuse : {r : Refusal} → v ≡ Bad r → c ≡ refuse (r .number) (r .record)
+  unfolding validatedAs refusal
+  validated-refuse e = answer-refused c n (sym h ∙ ap validatedAs e)
+
+module _ (s : List ℕ) (v : Validated) (h : validatedAs v ≡ validateAnswer s) where
+  pub validate-pass : {m : ℕ} → v ≡ Good m → validity s ≡ pass
+  unfolding validateAnswer
+  validate-pass = validated-pass _ v (validity s) h
+
+  pub validate-refuse : {r : Refusal} → v ≡ Bad r → validity s ≡ refuse (r .number) (r .record)
+  unfolding validateAnswer
+  validate-refuse = validated-refuse _ v (validity s) h
+
+-- the checks of a validation in order
+module _ (s : List ℕ) where
+  pub valid-size : sizeRight s ≡ false → validity s ≡ refuse 1 0
+  unfolding validity andThen need
+  valid-size e = simp e
+
+  pub valid-read : {k i : ℕ} → sizeRight s ≡ true → eachOf (recordCheck s) 1 (count s) ≡ refuse k i → validity s ≡ refuse k i
+  unfolding validity andThen need
+  valid-read e f = simp (e, f)
+
+  pub valid-climb : sizeRight s ≡ true → eachOf (recordCheck s) 1 (count s) ≡ pass → answer (eachOf (climbCheck (records s)) 1 (count s)) (count s) ≡ validateAnswer s
+  unfolding validateAnswer validity andThen need
+  valid-climb e f = simp (e, f)
+
+-- every parent is within the count, once refusals 2 to 5 are past
+pub parents-in : (s : List ℕ) → length s % 8 ≡ 0 → eachOf (recordCheck s) 1 (count s) ≡ pass → (j : ℕ) → parentOf (records s) j ≤ count s
+unfolding parentRight
+parents-in s m h j = go (ℕ-discrete j 0) (decLe j (count s))
+  where
+    right : (p : ℕ) → parentRight s p ≡ true → p ≤ count s
+    right zero q = omega arith
+    right (suc p) q = leb-true _ _ (and-left _ _ q)
+
+    go : Dec (j ≡ 0) → Dec (j ≤ count s) → parentOf (records s) j ≤ count s
+    go (yes e) _ = rw (e, ap (λ r. r .parent) (at-root (records s))) (omega arith)
+    go (no e) (yes l) = rw (ap (λ r. r .parent) (at-whole s m j)) (right _ (sound-record s j (each-pass _ 1 (count s) h j (omega arith) (omega arith)) .parents))
+    go (no e) (no l) = rw (ap (λ r. r .parent) (at-over (records s) j (omega (arith, length-records s)))) (omega arith)
+
+-- one climb of a view, where r is the record read
+module _ {A : Type 0} (v : View A) (s : List ℕ) (left i : ℕ) where
+  pub climb-top : i ≡ 0 → viewFrom v (records s) left i ≡ v .top
+  climb-top e = rw e (from-top v (records s) left)
+
+  pub climb-lost : i ≢ 0 → left ≡ 0 → viewFrom v (records s) left i ≡ v .lost
+  climb-lost n e = rw e (from-lost v (records s) i n)
+
+  pub climb-on : length s % 8 ≡ 0 → i ≢ 0 → left ≢ 0 → (r : Rec) → r ≡ decode s i → viewFrom v (records s) left i ≡ v .make r (viewFrom v (records s) (left - 1) (r .parent))
+  climb-on m n z r e =
+      let u : left ≡ suc (left - 1) = omega arith in
+      let w : at (records s) i ≡ r = at-whole s m i ∙ sym e in
+      ap (λ k. viewFrom v (records s) k i) u ∙ from-on v (records s) (left - 1) i n ∙ ap (λ x. v .make x (viewFrom v (records s) (left - 1) (x .parent))) w
+
+-- as many climbs as a view takes
+pub view-from : {A : Type 0} (v : View A) (s : List ℕ) (i : ℕ) → viewFrom v (records s) (length s / 8 + 1) i ≡ view v (records s) i
+unfolding view count
+view-from v s i = let e : length s / 8 + 1 ≡ suc (length (records s)) = omega (arith, length-records s) in ap (λ k. viewFrom v (records s) k i) e
+
+-- the view at the parent of a record that was read
+pub view-above : {A : Type 0} (v : View A) (s : List ℕ) (i : ℕ) → length s % 8 ≡ 0 → (r : Rec) → r ≡ decode s i → viewFrom v (records s) (length s / 8 + 1) (r .parent) ≡ view v (records s) (parentOf (records s) i)
+view-above v s i m r e = view-from v s (r .parent) ∙ ap (λ x. view v (records s) (x .parent)) (e ∙ sym (at-whole s m i))
+
+-- ambients by their kind
+pub ambient-is : (r : Rec) → r .kind ≡ 1 → isAmbient r ≡ true
+unfolding isAmbient
+ambient-is r e = eq-eqb _ _ e
+
+pub ambient-not : (r : Rec) → r .kind ≢ 1 → isAmbient r ≡ false
+unfolding isAmbient
+ambient-not r h = ne-eqb _ _ h
+
+-- climbs that stop at what is known
+module _ (s : List ℕ) (left i : ℕ) where
+  pub found-root : i ≡ 0 → Found s left i true
+  found-root e = record { found = λ _. (0, rw e root); lost = λ h. absurd (true≢false h) }
+
+  pub found-known : {known : List ℕ} → Known s known → getD known i 0 ≡ 1 → Found s left i true
+  found-known k e = record { found = λ _. k .reach i e; lost = λ h. absurd (true≢false h) }
+
+  pub found-none : i ≢ 0 → left ≡ 0 → Found s left i false
+  found-none n e = record { found = λ h. absurd (true≢false (sym h)); lost = λ _. climb-lost reaching s left i n e }
+
+  pub found-on : length s % 8 ≡ 0 → i ≢ 0 → left ≢ 0 → (r : Rec) → r ≡ decode s i → {b : Bool} → Found s (left - 1) (r .parent) b → Found s left i b
+  found-on m n z r e w = record {
+    found = λ h. let d = w .found h in (suc (d .0), under-of n (ap (λ x. x .parent) (at-whole s m i ∙ sym e)) (d .1));
+    lost = λ h. climb-on reaching s left i m n z r e ∙ w .lost h;
+  }
+
+pub known-more : (s known : List ℕ) (i : ℕ) → Known s known → (d : ℕ) × Depth (parentOf (records s)) i d → Known s (set known i 1)
+known-more s known i k w = record { reach = λ j e. go j e (ℕ-discrete j i) }
+  where
+    go : (j : ℕ) → getD (set known i 1) j 0 ≡ 1 → Dec (j ≡ i) → (d : ℕ) × Depth (parentOf (records s)) j d
+    go j e (yes q) = rw q w
+    go j e (no q) = k .reach j (sym (getD-set-other known i j 1 0 q) ∙ e)
+
+-- from another record, with other marks
+pub climbable : {s known known′ : List ℕ} {k : ℕ} (i : ℕ) → Climbable s known k → length known′ ≡ length known → Known s known′ → i ≤ count s → Climbable s known′ i
+climbable i w e m l = record { whole = w .whole; parents = w .parents; room = rw e (w .room); inside = l; marks = m }
+
+pub climbable-on : {s known : List ℕ} {i : ℕ} → Climbable s known i → (r : Rec) → r ≡ decode s i → Climbable s known (r .parent)
+climbable-on {s} {known} {i} w r e = climbable (r .parent) w refl (w .marks) (rw (e, ← at-whole s (w .whole) i) (w .parents i))
+
+pub found-pass : {s known : List ℕ} {k : ℕ} (n i : ℕ) {b : Bool} → Climbable s known k → n ≡ count s → i ≤ n → Found s n i b → b ≡ true → climbCheck (records s) i ≡ pass
+unfolding climbCheck need reaches
+found-pass {s} n i w e l f t =
+    let d = f .found t in
+    let m : length (records s) ≡ count s = length-records s in
+    rw (depth-reaches (records s) (length (records s)) (d .1) (depth-le (length (records s)) (λ j. rw m (w .parents j)) (omega arith) (d .1)))
+
+pub found-refuse : (s : List ℕ) (n i : ℕ) {b : Bool} → n ≡ count s → Found s n i b → b ≡ false → climbCheck (records s) i ≡ refuse 6 i
+unfolding climbCheck need reaches
+found-refuse s n i e f t =
+    let m : length (records s) ≡ n = length-records s ∙ sym e in
+    rw (m, f .lost t)
+
+-- a climb with no marks
+abbrev pub zeros : ℕ → List ℕ
+zeros k = replicate k 0
+
+pub getD-zero : (k j : ℕ) → getD (zeros k) j 0 ≡ 0
+getD-zero zero j = refl
+getD-zero (suc k) zero = refl
+getD-zero (suc k) (suc j) = getD-zero k j
+
+pub unmarked : {s : List ℕ} → Parented s → Climbable s (zeros 1025) 0
+unfolding count
+unmarked {s} w = record {
+  whole = w .whole;
+  parents = w .parents;
+  room = rw length-replicate (omega (arith, w .few));
+  inside = omega arith;
+  marks = record { reach = λ j e. absurd (omega (arith, e, getD-zero 1025 j)) };
+}
+
+pub parented : (s : List ℕ) → sizeRight s ≡ true → eachOf (recordCheck s) 1 (count s) ≡ pass → Parented s
+parented s e h = record { whole = size-whole s e; few = size-le s e; parents = parents-in s (size-whole s e) h }
+
+pub valid-whole : (s : List ℕ) → validity s ≡ pass → length s % 8 ≡ 0
+valid-whole s h = size-whole s (passed s h .size)
+
+pub valid-few : (s : List ℕ) → validity s ≡ pass → length s ≤ 8192
+valid-few s h = size-le s (passed s h .size)

@@ -1,0 +1,4 @@
+-- What the inner contracts cite, and laws that the proofs cite.
+pub mod Known
+pub mod Laws
+pub mod Written

@@ -1,0 +1,303 @@
+// Reading and validating an itinerary, and climbing in it.
+use model::Contained;
+use model::Reading;
+use model::Rec;
+use model::Refusal;
+use model::Validated;
+ghost use mathlib.Core.Path.{_≡_};
+ghost use Prim.Native.Nat.{_*_, _<_, _≤_, _%_};
+ghost use lib.ListN.{length};
+ghost use Rattle.model.specs.Records.{byteOf, count, decode, nested, records, word};
+ghost use Rattle.model.specs.Climbing.{container, nesting, standing, viewFrom};
+ghost use Rattle.model.specs.Refusals.{answer, eachOf};
+ghost use Rattle.model.specs.Validity.{climbCheck, goneRight, labelRight, nameRight, parentRight, recordCheck, spareRight};
+ghost use Rattle.model.specs.Calls.{containerAnswer, validateAnswer};
+ghost use Rattle.model.specs.Numbers.{containedAs, readingOf, validatedAs};
+ghost use Rattle.itinerary.specs.Written.{withRecord};
+ghost use Rattle.itinerary.specs.Known.{Climbable, Found, Known, Parented, formRight, readingNumber};
+
+// Byte k of record i, 0 where there is none; inner.
+pub fn byte_of(it: &[u8], i: u16, k: usize) -> u8
+    requires { ⌜ k < 8 ⌝ }
+    ensures { λ r. ⌜ r ≡ byteOf (now (it .entry)) i k ⌝ }
+{
+    if i == 0 {
+        return 0;
+    }
+    let at = 8 * ((i as usize) - 1) + k;
+    if at < it.len() { it[at] } else { 0 }
+}
+
+// A number of two bytes, the low one first.
+pub fn word(low: u8, high: u8) -> u16
+    ensures { λ r. ⌜ r ≡ word low high ⌝ }
+{
+    (low as u16) + 256 * (high as u16)
+}
+
+// Record i, gone for the environment and over the count.
+pub fn record_at(it: &[u8], i: u16) -> Rec
+    ensures { λ r. ⌜ r ≡ decode (now (it .entry)) i ⌝ }
+{
+    Rec {
+        kind: byte_of(it, i, 0),
+        label: byte_of(it, i, 1),
+        name: byte_of(it, i, 2),
+        parent: word(byte_of(it, i, 4), byte_of(it, i, 5)),
+    }
+}
+
+// Whether a record is an ambient or a capability.
+pub fn nested(r: Rec) -> bool
+    ensures { λ b. ⌜ b ≡ nested r ⌝ }
+{
+    (1 <= r.kind) & (r.kind <= 4)
+}
+
+// Whether the spare bytes of record i are zero.
+fn spare_right(it: &[u8], i: u16) -> bool
+    ensures { λ b. ⌜ b ≡ spareRight (now (it .entry)) i ⌝ }
+{
+    (byte_of(it, i, 3) == 0) & ((byte_of(it, i, 6) == 0) & (byte_of(it, i, 7) == 0))
+}
+
+// Whether a gone record is all zero.
+fn gone_right(r: Rec) -> bool
+    ensures { λ b. ⌜ b ≡ goneRight r ⌝ }
+{
+    if r.kind == 0 {
+        return (r.label == 0) & ((r.name == 0) & (r.parent == 0));
+    }
+    true
+}
+
+// Whether the label is right for the kind.
+fn label_right(r: Rec) -> bool
+    ensures { λ b. ⌜ b ≡ labelRight r ⌝ }
+{
+    if !nested(r) {
+        return r.label == 0;
+    }
+    if r.kind == 1 {
+        return (1 <= r.label) & (r.label <= 63);
+    }
+    (64 <= r.label) & (r.label <= 127)
+}
+
+// Whether the name is right for the kind.
+fn name_right(r: Rec) -> bool
+    ensures { λ b. ⌜ b ≡ nameRight r ⌝ }
+{
+    if nested(r) {
+        return r.name <= 63;
+    }
+    r.name == 0
+}
+
+// Whether p may be a parent.
+fn parent_right(it: &[u8], p: u16) -> bool
+    ensures { λ b. ⌜ b ≡ parentRight (now (it .entry)) p ⌝ }
+{
+    if p == 0 {
+        return true;
+    }
+    ((p as usize) <= it.len() / 8) & (byte_of(it, p, 0) != 0)
+}
+
+// Whether record i has none of the faults of refusal 2.
+fn form_right(it: &[u8], i: u16, r: Rec) -> bool
+    ensures { λ b. ⌜ b ≡ formRight (now (it .entry)) i r ⌝ }
+{
+    (r.kind <= 4) & (spare_right(it, i) & gone_right(r))
+}
+
+// Record i, or the number of the first of 2 to 5 that it breaks.
+pub fn read_record(it: &[u8], i: u16) -> Reading
+    ensures { λ r. ⌜ r ≡ readingOf (now (it .entry)) i ⌝ }
+{
+    let r = record_at(it, i);
+    if !form_right(it, i, r) {
+        return Reading::Refused(2);
+    }
+    if !label_right(r) {
+        return Reading::Refused(3);
+    }
+    if !name_right(r) {
+        return Reading::Refused(4);
+    }
+    if !parent_right(it, r.parent) {
+        return Reading::Refused(5);
+    }
+    Reading::Record(r)
+}
+
+// The number of a reading's refusal, 0 where it is a record.
+fn number_of(r: Reading) -> u8
+    ensures { λ k. ⌜ k ≡ readingNumber r ⌝ }
+{
+    match r {
+        Reading::Record(_) => 0,
+        Reading::Refused(k) => k,
+    }
+}
+
+// Refusals 2 to 5 of the first n records.
+fn first_unread(it: &[u8], n: u16) -> Validated
+    ensures { λ r. ⌜ validatedAs r ≡ answer (eachOf (recordCheck (now (it .entry))) 1 n) n ⌝ }
+{
+    let mut i: u16 = 0;
+    while i < n {
+        let next = i + 1;
+        let got = read_record(it, next);
+        let Reading::Record(_) = got else {
+            return Validated::Refused(Refusal {
+                number: number_of(got),
+                record: next,
+            });
+        };
+        i = next;
+    }
+    Validated::Done(n)
+}
+
+// Whether climbing from i reaches the environment; inner. A record with a mark in known does, and a climb that
+// succeeds marks the records it passed, so that no record is climbed from twice.
+fn climb(it: &[u8], known: &mut [u8], i: u16, left: usize) -> bool
+    requires { ⌜ Climbable (now it) (now known) i ⌝ }
+    ensures { λ r. ⌜ (Found (now (it .entry)) left i r) × (Known (now (it .entry)) (now (known .exit))) ⌝ }
+{
+    if i == 0 {
+        return true;
+    }
+    let at = i as usize;
+    if known[at] == 1 {
+        return true;
+    }
+    if left == 0 {
+        return false;
+    }
+    let r = record_at(it, i);
+    if climb(it, known, r.parent, left - 1) {
+        known[at] = 1;
+        return true;
+    }
+    false
+}
+
+// Refusal 6 of the n records; inner.
+fn first_lost(it: &[u8], known: &mut [u8], n: u16) -> Validated
+    requires { ⌜ (Climbable (now it) (now known) 0) × (n ≡ count (now it)) ⌝ }
+    ensures { λ r. ⌜ validatedAs r ≡ answer (eachOf (climbCheck (records (now (it .entry)))) 1 n) n ⌝ }
+{
+    let mut i: u16 = 0;
+    while i < n {
+        let lowest = i + 1;
+        if !climb(it, known, lowest, n as usize) {
+            return Validated::Refused(Refusal {
+                number: 6,
+                record: lowest,
+            });
+        }
+        i = lowest;
+    }
+    Validated::Done(n)
+}
+
+// Refusal 6 of the n records; inner.
+fn climbs(it: &[u8], n: u16) -> Validated
+    requires { ⌜ (Parented (now it)) × (n ≡ count (now it)) ⌝ }
+    ensures { λ r. ⌜ validatedAs r ≡ answer (eachOf (climbCheck (records (now (it .entry)))) 1 n) n ⌝ }
+{
+    let mut known = [0u8; 1025];
+    first_lost(it, &mut known, n)
+}
+
+// Refusals 1 to 6; the number of records.
+pub fn validate(it: &[u8]) -> Validated
+    ensures { λ r. ⌜ validatedAs r ≡ validateAnswer (now (it .entry)) ⌝ }
+{
+    let len = it.len();
+    if !((len % 8 == 0) & (len <= 8192)) {
+        return Validated::Refused(Refusal {
+            number: 1,
+            record: 0,
+        });
+    }
+    let n = (len / 8) as u16;
+    let seen = first_unread(it, n);
+    let Validated::Done(_) = seen else {
+        return seen;
+    };
+    climbs(it, n)
+}
+
+// The label of the nearest ambient from number i on upwards, with at most left climbs; inner.
+pub fn nearest(it: &[u8], i: u16, left: usize) -> u8
+    requires { ⌜ length (now it) % 8 ≡ 0 ⌝ }
+    ensures { λ r. ⌜ r ≡ viewFrom nesting (records (now (it .entry))) left i ⌝ }
+{
+    if i == 0 {
+        return 0;
+    }
+    if left == 0 {
+        return 0;
+    }
+    let r = record_at(it, i);
+    if r.kind == 1 {
+        return r.label;
+    }
+    nearest(it, r.parent, left - 1)
+}
+
+// Whether number i and all records above it are ambients, with at most left climbs; inner.
+pub fn ambients(it: &[u8], i: u16, left: usize) -> bool
+    requires { ⌜ length (now it) % 8 ≡ 0 ⌝ }
+    ensures { λ r. ⌜ r ≡ viewFrom standing (records (now (it .entry))) left i ⌝ }
+{
+    if i == 0 {
+        return true;
+    }
+    if left == 0 {
+        return false;
+    }
+    let r = record_at(it, i);
+    if r.kind == 1 {
+        return ambients(it, r.parent, left - 1);
+    }
+    false
+}
+
+// The container of record i; inner.
+pub fn container_of(it: &[u8], i: u16) -> u8
+    requires { ⌜ length (now it) % 8 ≡ 0 ⌝ }
+    ensures { λ r. ⌜ r ≡ container (records (now (it .entry))) i ⌝ }
+{
+    let r = record_at(it, i);
+    nearest(it, r.parent, it.len() / 8 + 1)
+}
+
+// The container of a record, after refusals 1 to 6; 0 for number 0, over the count or a gone record.
+pub fn container(it: &[u8], number: u16) -> Contained
+    ensures { λ r. ⌜ containedAs r ≡ containerAnswer (now (it .entry)) number ⌝ }
+{
+    match validate(it) {
+        Validated::Refused(r) => Contained::Refused(r),
+        Validated::Done(_) => Contained::Done(container_of(it, number)),
+    }
+}
+
+// Writes record i; inner.
+pub fn put_record(it: &mut [u8], i: u16, r: Rec)
+    requires { ⌜ (1 ≤ i) × (8 * i ≤ length (now it)) ⌝ }
+    ensures { λ _. ⌜ now (it .exit) ≡ withRecord (now (it .entry)) i r ⌝ }
+{
+    let at = 8 * ((i as usize) - 1);
+    it[at] = r.kind;
+    it[at + 1] = r.label;
+    it[at + 2] = r.name;
+    it[at + 3] = 0;
+    it[at + 4] = (r.parent % 256) as u8;
+    it[at + 5] = (r.parent / 256) as u8;
+    it[at + 6] = 0;
+    it[at + 7] = 0;
+}

@@ -1,0 +1,3 @@
+-- What the inner contracts cite, and laws that the proofs cite.
+pub mod Marks
+pub mod Laws

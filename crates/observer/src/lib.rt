@@ -1,0 +1,126 @@
+// The observer's sheet.
+use model::Performed;
+use model::Rec;
+use model::Refusal;
+use model::Validated;
+ghost use mathlib.Core.Path.{_≡_};
+ghost use Prim.Native.Nat.{_<_};
+ghost use lib.ListN.{length};
+ghost use Rattle.model.specs.Calls.{sheetAfter, sheetAnswer};
+ghost use Rattle.model.specs.Climbing.{hidden, isSuspect};
+ghost use Rattle.model.specs.Numbers.{performedAs};
+ghost use Rattle.model.specs.Observer.{sheetOf};
+ghost use Rattle.model.specs.Records.{records};
+ghost use Rattle.model.specs.Refusals.{pass};
+ghost use Rattle.model.specs.Tables.{suspects};
+ghost use Rattle.model.specs.Validity.{validity};
+ghost use Rattle.observer.specs.Marks.{Markable, Marked, Near, shownIf};
+
+// Whether a record is an ambient whose label is suspect; inner.
+fn suspect(table: &[u8], r: Rec) -> bool
+    requires { ⌜ (length (now table) ≡ 1544) × (r .kind ≡ 1 → r .label < 64) ⌝ }
+    ensures { λ b. ⌜ b ≡ isSuspect (suspects (now (table .entry))) r ⌝ }
+{
+    if r.kind == 1 {
+        return tables::bit(table, 12288 + (r.label as usize));
+    }
+    false
+}
+
+// Whether record i is hidden; inner. The climb stops at a record with a mark, 1 for shown and 2 for hidden, and marks
+// the records it passed, so that no record is climbed from twice.
+fn hidden(it: &[u8], table: &[u8], marks: &mut [u8], i: u16, left: usize) -> bool
+    requires { ⌜ (Markable (now it) (now table) (now marks)) × (Near (now it) left i) ⌝ }
+    ensures { λ b. ⌜ (b ≡ hidden (records (now (it .entry))) (suspects (now (table .entry))) i)
+        × (Marked (now (it .entry)) (now (table .entry)) (now (marks .exit))) ⌝ }
+{
+    if i == 0 {
+        return false;
+    }
+    let at = i as usize;
+    let mark = marks[at];
+    if mark == 1 {
+        return false;
+    }
+    if mark == 2 {
+        return true;
+    }
+    if left == 0 {
+        return false;
+    }
+    let r = itinerary::record_at(it, i);
+    if suspect(table, r) {
+        marks[at] = 2;
+        return true;
+    }
+    if hidden(it, table, marks, r.parent, left - 1) {
+        marks[at] = 2;
+        return true;
+    }
+    marks[at] = 1;
+    false
+}
+
+// A record as the sheet shows it.
+fn shown(hidden: bool, r: Rec) -> Rec
+    ensures { λ x. ⌜ x ≡ shownIf hidden r ⌝ }
+{
+    if hidden {
+        return Rec {
+            kind: 0,
+            label: 0,
+            name: 0,
+            parent: 0,
+        };
+    }
+    r
+}
+
+// Writes the sheet, record by record; inner.
+fn write(it: &[u8], table: &[u8], marks: &mut [u8], sheet: &mut [u8])
+    requires { ⌜ (Markable (now it) (now table) (now marks)) × (length (now sheet) ≡ length (now it)) ⌝ }
+    ensures { λ _. ⌜ now (sheet .exit) ≡ sheetOf (now (it .entry)) (now (table .entry)) ⌝ }
+{
+    let n = (it.len() / 8) as u16;
+    let mut i: u16 = 0;
+    while i < n {
+        let h = hidden(it, table, marks, i + 1, n as usize);
+        let r = itinerary::record_at(it, i + 1);
+        itinerary::put_record(sheet, i + 1, shown(h, r));
+        i += 1;
+    }
+}
+
+// Writes the sheet; inner.
+fn fill(it: &[u8], table: &[u8], sheet: &mut [u8])
+    requires { ⌜ (validity (now it) ≡ pass) × (length (now table) ≡ 1544) × (length (now sheet) ≡ length (now it)) ⌝ }
+    ensures { λ _. ⌜ now (sheet .exit) ≡ sheetOf (now (it .entry)) (now (table .entry)) ⌝ }
+{
+    let mut marks = [0u8; 1025];
+    write(it, table, &mut marks, sheet);
+}
+
+// The sheet after refusals 1 to 6, 8 and 14.
+pub fn sheet(it: &[u8], table: &[u8], sheet: &mut [u8]) -> Performed
+    ensures { λ r. ⌜ (performedAs r ≡ sheetAnswer (now (it .entry)) (now (table .entry)) (now (sheet .entry)))
+        × (now (sheet .exit) ≡ sheetAfter (now (it .entry)) (now (table .entry)) (now (sheet .entry))) ⌝ }
+{
+    let seen = itinerary::validate(it);
+    if let Validated::Refused(r) = seen {
+        return Performed::Refused(r);
+    }
+    if !tables::table_right(table) {
+        return Performed::Refused(Refusal {
+            number: 8,
+            record: 0,
+        });
+    }
+    if sheet.len() != it.len() {
+        return Performed::Refused(Refusal {
+            number: 14,
+            record: 0,
+        });
+    }
+    fill(it, table, sheet);
+    Performed::Done
+}

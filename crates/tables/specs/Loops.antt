@@ -1,0 +1,101 @@
+-- What a loop that stops at the first failure finds.
+use Prim.Native.Nat.{_%_, _*_, _+_, _/_, _<_, _^_, _≤_, ℕ}
+use borrow.Author.Tests.{eq-eqb, eqb-true, le-leb, lt-leb, ne-eqb}
+use lib.Bits.{bitOr}
+use lib.Dec.{eqb, leb}
+use lib.ListN.{getD, length}
+use mathlib.Core.Bool.{Bool, _&&_, false, not, true, true≢false}
+use mathlib.Core.List.{List}
+use mathlib.Core.Path.{_∙_, _≡_, ap, ap₂, fun-ext, refl, sym}
+use native.Mathlib.Decide.{decLt}
+use native.Mathlib.Omega.{arith}
+use Rattle.model.specs.Finite.{every}
+use Rattle.model.specs.Laws.Bit.{high-bit, or-same, same-or}
+use Rattle.model.specs.Laws.Checks.{and-make}
+use Rattle.model.specs.Laws.Finite.{every-make, every-use}
+use Rattle.model.specs.Tables.{bitAt, bits, placeH, placeI, policyRight, tableRight, tableSized, testBit}
+use Rattle.tables.specs.Bit.{is-false}
+
+module _ (n : ℕ) (t f : ℕ → Bool) where
+  pub all-pass : ((x : ℕ) → x < n → t x ≡ true → f x ≡ true) → true ≡ every n t f
+  all-pass h = sym (every-make t f n h)
+
+  pub one-fails : (x : ℕ) → x < n → t x ≡ true → f x ≡ false → false ≡ every n t f
+  one-fails x l e d = sym (is-false _ (λ h. true≢false (sym (every-use t f n h x l e) ∙ d)))
+
+-- ---- rows
+
+-- every byte of x is a part of y's
+pub row-yes : (x y : List ℕ) → ((i : ℕ) → i < 16 → bitOr (getD x i 0) (getD y i 0) ≡ getD y i 0) → true ≡ every 128 (λ k. bits x k) (λ k. bits y k)
+unfolding bitAt
+row-yes x y h = all-pass 128 _ _ (λ k l t. or-same (getD x (k / 8) 0) (getD y (k / 8) 0) (h (k / 8) (omega arith)) (k % 8) t)
+
+pub row-no : (x y : List ℕ) (i : ℕ) → i < 16 → getD x i 0 < 2 ^ 8 → getD y i 0 < 2 ^ 8 → (bitOr (getD x i 0) (getD y i 0) ≡ getD y i 0 → ⊥) → false ≡ every 128 (λ k. bits x k) (λ k. bits y k)
+unfolding bitAt
+row-no x y i l hx hy n = sym (is-false _ (λ t. n (same-or 8 (getD x i 0) (getD y i 0) hx hy (λ k s. go t k (decLt k 8) s))))
+  where
+    go : every 128 (λ k. bits x k) (λ k. bits y k) ≡ true → (k : ℕ) → Dec (k < 8) → testBit (getD x i 0) k ≡ true → testBit (getD y i 0) k ≡ true
+    go t k (no d) s = absurd (true≢false (sym s ∙ high-bit (getD x i 0) k 8 hx (omega arith)))
+    go t k (yes d) s =
+        let q : (8 * i + k) / 8 ≡ i = omega arith in
+        let r : (8 * i + k) % 8 ≡ k = omega arith in
+        sym (ap₂ (λ (a b : ℕ). testBit (getD y a 0) b) q r)
+        ∙ every-use (λ k. bits x k) (λ k. bits y k) 128 t (8 * i + k) (omega arith) (ap₂ (λ (a b : ℕ). testBit (getD x a 0) b) q r ∙ s)
+
+-- ---- a policy
+
+module _ (policy : List ℕ) where
+  pub policy-long : (length policy ≡ 64 → ⊥) → false ≡ policyRight policy
+  unfolding policyRight
+  policy-long d = rw (ne-eqb _ _ d)
+
+  pub policy-first : (getD policy 0 0 ≡ 0 → ⊥) → false ≡ policyRight policy
+  unfolding policyRight
+  policy-first d = rw (ne-eqb _ _ d) (fails (eqb (length policy) 64) (every 64 (λ k. true) (λ k. leb (getD policy k 0) 2)))
+    where
+      fails : (a b : Bool) → false ≡ (a && (b && false))
+      fails true true = refl
+      fails true false = refl
+      fails false b = refl
+
+  pub policy-over : (k : ℕ) → k < 64 → 2 < getD policy k 0 → false ≡ policyRight policy
+  unfolding policyRight
+  policy-over k l h = rw (← one-fails 64 (λ k. true) (λ k. leb (getD policy k 0) 2) k l refl (lt-leb _ _ h)) (fails (eqb (length policy) 64))
+    where
+      fails : (a : Bool) → false ≡ (a && false)
+      fails true = refl
+      fails false = refl
+
+  pub policy-good : length policy ≡ 64 → getD policy 0 0 ≡ 0 → ((k : ℕ) → k < 64 → getD policy k 0 ≤ 2) → true ≡ policyRight policy
+  unfolding policyRight
+  policy-good e z h = sym (and-make (eq-eqb _ _ e) (and-make (sym (all-pass 64 (λ k. true) (λ k. leb (getD policy k 0) 2) (λ k l t. le-leb _ _ (h k l)))) (eq-eqb _ _ z)))
+
+-- ---- a table's clear bits
+
+-- the bits that refusal 8 asks to be clear, `step` apart
+abbrev pub Clear : List ℕ → ℕ → ℕ → Bool
+Clear table first step = every 64 (λ k. true) (λ k. not (bits table (first + step * k)))
+
+module _ (table : List ℕ) where
+  bit-at : (i j : ℕ) → i ≡ j → not (bits table i) ≡ not (bits table j)
+  bit-at i j e = rw e
+
+  pub clear-I : Clear table 0 128 ≡ every 64 (λ a. true) (λ a. not (bits table (placeI a 0)))
+  unfolding placeI
+  clear-I = ap (λ (f : ℕ → Bool). every 64 (λ k. true) f) (fun-ext (λ k. bit-at (0 + 128 * k) (128 * k + 0) (omega arith)))
+
+  pub clear-H : Clear table 8192 1 ≡ every 64 (λ n. true) (λ n. not (bits table (placeH 0 n)))
+  unfolding placeH
+  clear-H = ap (λ (f : ℕ → Bool). every 64 (λ k. true) f) (fun-ext (λ k. bit-at (8192 + 1 * k) (8192 + (64 * 0 + k)) (omega arith)))
+
+  pub table-long : (length table ≡ 1544 → ⊥) → false ≡ tableRight table
+  unfolding tableRight tableSized
+  table-long d = rw (ne-eqb _ _ d)
+
+  pub table-first : length table ≡ 1544 → Clear table 0 128 ≡ false → false ≡ tableRight table
+  unfolding tableRight tableSized
+  table-first e h = rw (eq-eqb _ _ e, ← clear-I, h)
+
+  pub table-second : length table ≡ 1544 → Clear table 0 128 ≡ true → Clear table 8192 1 ≡ tableRight table
+  unfolding tableRight tableSized
+  table-second e h = rw (eq-eqb _ _ e, ← clear-I, h, clear-H)
