@@ -113,7 +113,7 @@ module _ (s : List ℕ) (m : length s % 8 ≡ 0) (actor partner : ℕ) (c : Rec)
     by-tests x y p q =
         ap (λ o. decisionBy (outcomeBy free o (records s) actor partner) (records s) actor partner) (ap (λ r. capability (r .kind)) here ∙ kind-some (c .kind) some-kind)
         ∙ ap (λ t. decisionBy (decide (capabilityOf (c .kind)) t (fit free (capabilityOf (c .kind)) (records s) actor partner)) (records s) actor partner)
-          (ap (λ r. ready (capabilityOf (c .kind)) (records s) (r .parent)) here ∙ p)
+        (ap (λ r. ready (capabilityOf (c .kind)) (records s) (r .parent)) here ∙ p)
         ∙ ap (λ t. decisionBy (decide (capabilityOf (c .kind)) x t) (records s) actor partner) q
 
     pub decide-11 : ready (capabilityOf (c .kind)) (records s) (c .parent) ≡ false → decided ≡ Refused 11

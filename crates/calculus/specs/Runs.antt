@@ -160,9 +160,11 @@ module _ {s z d : List ℕ} {k : ℕ} {it ans : List ℕ} {c : Counts} (w : Runn
 
   pub running-end : length z / 4 ≤ k → (c ≡ countsOf (outcomes free s (orders z))) × (it ≡ afterOrders free s (orders z)) × (ans ≡ answersOf free s (orders z))
   running-end m =
-      let e = take-all k (orders z) (omega (arith, length-orders z)) in
-      (w .counts ∙ ap (λ x. countsOf (outcomes free s x)) e, w .bytes ∙ ap (afterOrders free s) e,
-      w .answers ∙ ap (λ x. answersOf free s x ++ drop k d) e ∙ ap (λ x. answersOf free s (orders z) ++ x) (let f : length d ≤ k = omega arith in drop-of-length-le d f) ∙ append-nil (answersOf free s (orders z)))
+      let e = take-all k (orders z) (omega (arith, length-orders z)) in (
+        w .counts ∙ ap (λ x. countsOf (outcomes free s x)) e,
+        w .bytes ∙ ap (afterOrders free s) e,
+        w .answers ∙ ap (λ x. answersOf free s x ++ drop k d) e ∙ ap (λ x. answersOf free s (orders z) ++ x) (let f : length d ≤ k = omega arith in drop-of-length-le d f) ∙ append-nil (answersOf free s (orders z)),
+      )
 
 module _ {s z d : List ℕ} {k : ℕ} {it ans : List ℕ} {c : Counts} (w : Running s z d k it ans c) (l : k < length z / 4) (room : length d ≡ length z / 4)
     (whole : length it % 8 ≡ 0) {actor partner kind number : ℕ} (ea : actor ≡ word (byte z (4 * k)) (byte z (4 * k + 1)))
@@ -194,14 +196,14 @@ module _ {s z d : List ℕ} {k : ℕ} {it ans : List ℕ} {c : Counts} (w : Runn
     bytes = e ∙ ap (λ x. stepBytes free it x partner) is-actor ∙ ap (λ x. stepBytes free it (m .actor) x) is-partner ∙ after-next s (take k (orders z)) m it (w .bytes) ∙ ap (afterOrders free s) (sym more);
     long = f ∙ w .long;
     answers =
-      ap (λ x. set x k number) (w .answers)
-      ∙ fill-next (answersOf free s (take k (orders z))) d k number (answers-length s (take k (orders z)) ∙ length-take-le k (orders z) (omega (arith, length-orders z))) (omega arith)
-      ∙ ap (λ x. (answersOf free s (take k (orders z)) ++ (x ∷ [])) ++ drop (k + 1) d) is-number
-      ∙ ap (λ x. x ++ drop (k + 1) d) (answers-next s (take k (orders z)) m it (w .bytes) ∙ ap (answersOf free s) (sym more));
+        ap (λ x. set x k number) (w .answers)
+        ∙ fill-next (answersOf free s (take k (orders z))) d k number (answers-length s (take k (orders z)) ∙ length-take-le k (orders z) (omega (arith, length-orders z))) (omega arith)
+        ∙ ap (λ x. (answersOf free s (take k (orders z)) ++ (x ∷ [])) ++ drop (k + 1) d) is-number
+        ∙ ap (λ x. x ++ drop (k + 1) d) (answers-next s (take k (orders z)) m it (w .bytes) ∙ ap (answersOf free s) (sym more));
     counts =
-      g ∙ ap (λ x. counted x kind number) (w .counts) ∙ ap (λ x. counted (countsOf (outcomes free s (take k (orders z)))) x number) is-kind
-      ∙ ap (λ x. counted (countsOf (outcomes free s (take k (orders z)))) (at (records it) (m .actor) .kind) x) is-number
-      ∙ counts-next s (take k (orders z)) m it (w .bytes) ∙ ap (λ x. countsOf (outcomes free s x)) (sym more);
+        g ∙ ap (λ x. counted x kind number) (w .counts) ∙ ap (λ x. counted (countsOf (outcomes free s (take k (orders z)))) x number) is-kind
+        ∙ ap (λ x. counted (countsOf (outcomes free s (take k (orders z)))) (at (records it) (m .actor) .kind) x) is-number
+        ∙ counts-next s (take k (orders z)) m it (w .bytes) ∙ ap (λ x. countsOf (outcomes free s x)) (sym more);
   }
 
 -- a run that is refused, and one that is done

@@ -5,9 +5,12 @@ use lib.Dec.{eqb}
 use lib.ListN.{replicate}
 use mathlib.Core.Bool.{Bool, false, true}
 use mathlib.Core.List.{List, [], _∷_}
+use mathlib.Core.Option.{some}
 use mathlib.Core.Path.{_≡_}
 use Rattle.model.specs.Calls.{makeAfter, makeAnswer, stepAfter, stepAnswer, validateAnswer, verdictAnswer}
 use Rattle.model.specs.Laws.WellFormed.{labels}
+use Rattle.model.specs.Listing.{hubscreen}
+use Rattle.model.specs.Noninterference.{script}
 use Rattle.model.specs.Refusals.{done, number, refused}
 use Rattle.model.specs.Steps.{place}
 use Rattle.model.specs.Tables.{suspects}
@@ -27,6 +30,7 @@ rec kind label name parent rest = kind ∷ label ∷ name ∷ 0 ∷ parent ∷ 0
 unfoldable pub classes : List ℕ
 classes = 0 ∷ 2 ∷ 1 ∷ replicate 61 0
 
+-- "all low"
 unfoldable pub allLow : List ℕ
 allLow = replicate 64 0
 
@@ -34,6 +38,7 @@ allLow = replicate 64 0
 unfoldable pub recordsA : List ℕ → List ℕ
 recordsA rest = rec 1 1 0 0 (rec 1 2 1 1 rest)
 
+-- "A: records (1,1,0,parent 0), (1,2,1,parent 1)"
 unfoldable pub itineraryA : List ℕ
 itineraryA = recordsA []
 
@@ -57,7 +62,7 @@ itineraryE = rec 1 1 0 0 (rec 2 64 0 1 [])
 unfoldable pub itineraryF : List ℕ
 itineraryF = []
 
--- "one record with parent 1"
+-- "one record with parent 1": an ambient; any other kind with a fitting label is refused alike
 unfoldable pub itineraryG : ℕ → List ℕ
 itineraryG parent = rec 1 1 0 parent []
 
@@ -77,6 +82,8 @@ pub data Claim : Type 0 where
   suspecting : (itinerary policy : List ℕ) (labels : List ℕ) → Claim
   -- the step's answer, and the itinerary after it
   steps : (itinerary : List ℕ) (actor partner number : ℕ) (later : List ℕ) → Claim
+  -- hubscreen writes these bytes
+  writes : (itinerary policy script : List ℕ) (text : List ℕ) → Claim
   -- validation refuses, with number and record
   refuses : (itinerary : List ℕ) (number place : ℕ) → Claim
 
@@ -86,12 +93,25 @@ Meets (makes s policy ones verdict) =
     (makeAnswer s policy blankTable ≡ done ones) × (verdictAnswer s policy (makeAfter s policy blankTable) ≡ done verdict)
 Meets (suspecting s policy labels) = (k : ℕ) → k < 64 → suspects (makeAfter s policy blankTable) k ≡ isIn labels k
 Meets (steps s actor partner n later) = (number (stepAnswer s actor partner) ≡ n) × (stepAfter s actor partner ≡ later)
+Meets (writes s policy z text) = hubscreen (some s) (some policy) (some z) ≡ text
 Meets (refuses s n r) = validateAnswer s ≡ refused n r
 
+-- "For case B and the script (3,1), (3,1) it writes exactly"
+unfoldable pub scriptB : List ℕ
+scriptB = 3 ∷ 0 ∷ 1 ∷ 0 ∷ 3 ∷ 0 ∷ 1 ∷ 0 ∷ []
+
+-- "exposed 2 7", "3 1 0", "3 1 10", "end 0 1 0 2"
+unfoldable pub textB : List ℕ
+textB =
+    101 ∷ 120 ∷ 112 ∷ 111 ∷ 115 ∷ 101 ∷ 100 ∷ 32 ∷ 50 ∷ 32 ∷ 55 ∷ 10 ∷ 51 ∷ 32 ∷ 49 ∷ 32 ∷ 48 ∷ 10 ∷ 51 ∷ 32 ∷ 49 ∷ 32 ∷ 49 ∷ 48 ∷ 10
+    ∷ 101 ∷ 110 ∷ 100 ∷ 32 ∷ 48 ∷ 32 ∷ 49 ∷ 32 ∷ 48 ∷ 32 ∷ 50 ∷ 10 ∷ []
+
+-- each claim of a list has the property
 unfoldable pub All : (Claim → Type 0) → List Claim → Type 0
 All P [] = Unit {0}
 All P (c ∷ cs) = P c × All P cs
 
+-- the lettered examples, one list
 unfoldable pub examples : List Claim
 examples =
     -- "A: .. Five bits, sealed."
@@ -99,6 +119,7 @@ examples =
     -- "B: .. Seven bits, exposed 2. Step (3,1) gives record 2 parent 0."
     ∷ makes itineraryB classes 7 (Exposed 2)
     ∷ steps itineraryB 3 1 0 (rec 1 1 0 0 (rec 1 2 1 0 (rec 0 0 0 0 [])))
+    ∷ writes itineraryB classes scriptB textB
     -- "C: .. Twelve bits, S is 1, 2, 3, hinted 1."
     ∷ makes itineraryC classes 12 (Hinted 1)
     ∷ suspecting itineraryC classes (1 ∷ 2 ∷ 3 ∷ [])

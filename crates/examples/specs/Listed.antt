@@ -3,7 +3,7 @@ use Prim.Native.Nat.{_%_, _/_, _<_, _≤_, suc, ℕ}
 use borrow.Author.Tests.{eqb-true, leb-true}
 use lib.Count.{ones, onesIn}
 use lib.Dec.{eqb, leb}
-use lib.ListN.{List·getD-eq-default}
+use lib.ListN.{List·getD-eq-default, length}
 use mathlib.Core.Bool.{Bool, Bool·beq, _&&_, false, true, true≢false}
 use mathlib.Core.List.{List, [], _∷_}
 use mathlib.Core.Path.{_∙_, _≡_, ap, ap₂, fun-ext, refl, subst, sym}
@@ -11,9 +11,9 @@ use native.Mathlib.Decide.{decLt}
 use native.Mathlib.Omega.{arith}
 use Rattle.examples.specs.Claims.{Meets, allLow, blankTable, classes, isIn, itineraryA, itineraryB, itineraryC, itineraryD, itineraryE, itineraryF, itineraryG, itineraryH, makes, rec, recordsA, suspecting}
 use Rattle.model.specs.Analysis.{free, holds, onlyIf, recordHolds, ruleHolds, rulesHold}
-use Rattle.model.specs.Calls.{checkAnswer, checking, makeAfter, makeAnswer, making, metCheck, runAfter, runAnswers, running, stepAfter, stepAnswer, stepping, validateAnswer, verdictAnswer}
+use Rattle.model.specs.Calls.{checkAnswer, checking, makeAfter, makeAnswer, making, metCheck, runAfter, runAnswers, running, screenAnswer, screenAnswers, screening, stepAfter, stepAnswer, stepping, validateAnswer, verdictAnswer}
 use Rattle.model.specs.Climbing.{ambientAnd, hides, isSuspect, labelled, reaches, view, viewFrom}
-use Rattle.model.specs.Finite.{digit, every, lowest, someOf, tabulate}
+use Rattle.model.specs.Finite.{digit, every, lowest, someOf, tabulate, tally}
 use Rattle.model.specs.Laws.Bit.{zero-bit}
 use Rattle.model.specs.Laws.Bytes.{valid-wf}
 use Rattle.model.specs.Laws.Checks.{answer-done, need-make, then-make}
@@ -24,20 +24,21 @@ use Rattle.model.specs.Laws.Made.{made-accepted}
 use Rattle.model.specs.Laws.Sets.{bits-bytes, bytes-narrow, length-bytes}
 use Rattle.model.specs.Laws.WellFormed.{and-left, and-right, labels}
 use Rattle.model.specs.Least.{bytes, leastTable, numeral}
+use Rattle.model.specs.Listing.{contentOf, digitsIn, endLine, endWord, field, lastField, listing, refusedWord, stepLines, verdictWord}
 use Rattle.model.specs.Noninterference.{after, afterEvent, allSteps, given, givenBy, kept, stepsOf}
 use Rattle.model.specs.Observer.{onSheet, sheet}
 use Rattle.model.specs.Records.{at, byteOf, capability, count, decode, encode, isAmbient, nested, records, updateFrom}
 use Rattle.model.specs.Refusals.{andThen, answer, content, done, eachOf, need, pass}
-use Rattle.model.specs.Scripts.{afterOrders, answersOf, orderAt, orders, outcomes, scriptRight}
+use Rattle.model.specs.Scripts.{afterOrders, answersOf, countsOf, doneBy, howMany, kindOf, notGone, orderAt, orders, outcomes, scriptRight}
 use Rattle.model.specs.Steps.{answerOf, decide, dissolve, dissolved, fit, move, outcome, outcomeBy, place, placed, ready, rewritten, stands, stepBytes}
 use Rattle.model.specs.Tables.{bitAt, bits, isBoundary, isHigh, parts, placeH, placeI, placeS, policyRight, tableSized, testBit, total}
 use Rattle.model.specs.Validity.{blank, climbCheck, goneRight, kindRight, labelBy, labelIn, labelRight, nameBy, nameRight, parentRight, recordCheck, sizeRight, spareRight, validity}
-use Rattle.model.specs.Verdicts.{alike, growing, grown, inR, joins, marked, opening, reached, verdictBy, verdictOf}
+use Rattle.model.specs.Verdicts.{alike, growing, grown, inR, joins, labelOf, marked, opening, reached, verdictBy, verdictOf}
 use Rattle.model.specs.declared.Verdict.{Verdict}
 
 -- what the examples compute with: to unfold this is to unfold all that its line names
 unfoldable pub computing : ℕ
-unfolding sizeRight kindRight spareRight blank goneRight labelIn labelBy labelRight nameBy nameRight parentRight recordCheck climbCheck validity count byteOf decode records tabulate at isAmbient nested viewFrom reaches need andThen eachOf view labelled capability every onlyIf ruleHolds rulesHold recordHolds holds isHigh placeI placeH placeS isIn someOf lowest marked alike joins grown growing reached opening inR isBoundary verdictBy verdictOf encode updateFrom ambientAnd placed place dissolved dissolve ready stands fit move decide outcomeBy outcome answerOf rewritten stepBytes metCheck stepping stepAnswer stepAfter answer content orderAt orders scriptRight afterOrders outcomes answersOf running runAfter runAnswers afterEvent after kept stepsOf allSteps givenBy given hides isSuspect sheet onSheet policyRight total bytes numeral digit ones onesIn validateAnswer rec classes allLow recordsA itineraryA itineraryB itineraryC itineraryD itineraryE itineraryF itineraryG itineraryH
+unfolding sizeRight kindRight spareRight blank goneRight labelIn labelBy labelRight nameBy nameRight parentRight recordCheck climbCheck validity count byteOf decode records tabulate at isAmbient nested viewFrom reaches need andThen eachOf view labelled capability every onlyIf ruleHolds rulesHold recordHolds holds isHigh placeI placeH placeS isIn someOf lowest marked alike joins grown growing reached opening inR isBoundary verdictBy verdictOf encode updateFrom ambientAnd placed place dissolved dissolve ready stands fit move decide outcomeBy outcome answerOf rewritten stepBytes metCheck stepping stepAnswer stepAfter answer content orderAt orders scriptRight afterOrders outcomes answersOf running runAfter runAnswers afterEvent after kept stepsOf allSteps givenBy given hides isSuspect sheet onSheet policyRight total bytes numeral digit ones onesIn validateAnswer screening tally notGone countsOf howMany doneBy kindOf screenAnswers contentOf digitsIn field lastField verdictWord endWord refusedWord stepLines endLine listing labelOf rec classes allLow recordsA itineraryA itineraryB itineraryC itineraryD itineraryE itineraryF itineraryG itineraryH
 computing = 0
 
 -- every number of a list has the property
@@ -137,3 +138,18 @@ module _ {s policy xs : List ℕ} {ones : ℕ} {verdict : Verdict} (w : Listed s
       same true false e = absurd (true≢false (sym e))
       same false true e = absurd (true≢false (sym e))
       same false false e = refl
+
+  -- what the screen returns where its script is right
+  pub listed-screen : (z answers : List ℕ) → scriptRight z (length answers) ≡ true →
+      screenAnswer s policy z answers ≡ done (record {
+        verdict = verdict;
+        ones = ones;
+        counts = countsOf (outcomes free s (orders z));
+        left = notGone (records (afterOrders free s (orders z)));
+      })
+  unfolding screenAnswer screening answer
+  listed-screen z answers e =
+      let c : screening s policy z answers ≡ pass = then-make (w .valid) (then-make (need-make 7 0 (w .policy-right)) (need-make 13 0 e)) in
+      let v : verdictOf (parts (bits (leastTable free policy (records s)))) policy ≡ verdict =
+      ap (λ t. verdictOf (parts (bits t)) policy) table-is ∙ ap (λ u. verdictOf (parts u) policy) (bits-listed xs (w .small)) ∙ w .judged in
+      rw (c, answer, v, ap total table-is ∙ w .counted)

@@ -1,16 +1,19 @@
 -- The lettered examples A to H, proved about the definitions that the contracts cite: for each the bits of its least
 -- table, each of which a record or a rule forces.
-use Prim.Native.Nat.{ℕ}
-use lib.Pow.{high}
+use Prim.Native.Nat.{_/_, ℕ}
+use lib.ListN.{length, replicate}
 use mathlib.Core.Bool.{Bool·beq, true}
 use mathlib.Core.List.{List, [], _∷_}
-use mathlib.Core.Path.{_≡_, refl}
+use mathlib.Core.Path.{_≡_, ap, refl}
 use native.Mathlib.Omega.{arith}
-use Rattle.examples.specs.Claims.{All, Meets, allLow, classes, examples, isIn, itineraryA, itineraryB, itineraryC, itineraryD, itineraryE, itineraryF}
-use Rattle.examples.specs.Listed.{Listed, allBelow, computing, listed-makes, listed-suspects}
+use Rattle.examples.specs.Claims.{All, Meets, allLow, classes, examples, isIn, itineraryA, itineraryB, itineraryC, itineraryD, itineraryE, itineraryF, scriptB, textB, writes}
+use Rattle.examples.specs.Listed.{Listed, allBelow, computing, listed-makes, listed-screen, listed-suspects}
+use Rattle.model.specs.Calls.{screenAnswers}
 use Rattle.model.specs.Finite.{every}
 use Rattle.model.specs.Laws.WellFormed.{small}
+use Rattle.model.specs.Listing.{hubscreen, listing, written}
 use Rattle.model.specs.Records.{cap-in, cap-open, cap-out}
+use Rattle.model.specs.Scripts.{orders}
 use Rattle.model.specs.Tables.{placeH, placeI, placeS}
 use Rattle.model.specs.declared.Verdict.the-variants.{Exposed, Hinted, Sealed}
 
@@ -126,49 +129,36 @@ suspects-F : every 64 (λ k. true) (λ k. Bool·beq (isIn bitsF (placeS k)) (isI
 unfolding computing bitsF
 suspects-F = refl
 
+-- case B's listing
+writes-B : Meets (writes itineraryB classes scriptB textB)
+unfolding Meets hubscreen written computing scriptB textB
+writes-B =
+    ap (λ a. listing a (orders scriptB) (screenAnswers itineraryB classes scriptB (replicate (length scriptB / 4) 0)))
+    (listed-screen listedB scriptB (replicate (length scriptB / 4) 0) refl)
+
+-- a proof and the rest
+infixr 4 _also_
+_also_ : {A B : Type 0} → A → B → A × B
+a also b = (a, b)
+
 -- A to H
 pub all-examples : All Meets examples
 unfolding computing All Meets examples
-all-examples = (
-  listed-makes listedA,
-  (
-    listed-makes listedB,
-    (
-      (refl, refl),
-      (
-        listed-makes listedC,
-        (
-          listed-suspects listedC (1 ∷ 2 ∷ 3 ∷ []) suspects-C,
-          (
-            listed-makes listedD,
-            (
-              (refl, refl),
-              (
-                listed-makes listedE,
-                (
-                  (refl, refl),
-                  (
-                    listed-makes listedF,
-                    (
-                      listed-suspects listedF (2 ∷ []) suspects-F,
-                      (
-                        refl,
-                        (
-                          refl,
-                          (
-                            (refl, refl),
-                            ((refl, refl), tt),
-                          ),
-                        ),
-                      ),
-                    ),
-                  ),
-                ),
-              ),
-            ),
-          ),
-        ),
-      ),
-    ),
-  ),
-)
+all-examples =
+    listed-makes listedA
+    also listed-makes listedB
+    also (refl, refl)
+    also writes-B
+    also listed-makes listedC
+    also listed-suspects listedC (1 ∷ 2 ∷ 3 ∷ []) suspects-C
+    also listed-makes listedD
+    also (refl, refl)
+    also listed-makes listedE
+    also (refl, refl)
+    also listed-makes listedF
+    also listed-suspects listedF (2 ∷ []) suspects-F
+    also refl
+    also refl
+    also (refl, refl)
+    also (refl, refl)
+    also tt

@@ -82,7 +82,7 @@ module _ (its : List Rec) (s : List ℕ) where
       ap (λ x. withRecord x (i + 1) r) e
       ∙ ap (λ x. x ++ (encode (r ∷ []) ++ drop (8 * (i + 1)) (encode (take i its) ++ drop (8 * i) s))) (take-at (encode (take i its)) (drop (8 * i) s) _ u)
       ∙ ap (λ x. encode (take i its) ++ (encode (r ∷ []) ++ x))
-        (ap (λ k. drop k (encode (take i its) ++ drop (8 * i) s)) v ∙ drop-append-add (encode (take i its)) (drop (8 * i) s) 8 ∙ drop-drop 8 (8 * i) s ∙ ap (λ k. drop k s) w)
+      (ap (λ k. drop k (encode (take i its) ++ drop (8 * i) s)) v ∙ drop-append-add (encode (take i its)) (drop (8 * i) s) 8 ∙ drop-drop 8 (8 * i) s ∙ ap (λ k. drop k s) w)
       ∙ sym (append-assoc (encode (take i its)) (encode (r ∷ [])) (drop (8 * (i + 1)) s))
       ∙ ap (λ x. x ++ drop (8 * (i + 1)) s) (sym (encode-append (take i its) (r ∷ [])) ∙ ap encode (ap (λ x. take i its ++ (x ∷ [])) (q ∙ ap (at its) z) ∙ sym (take-suc its i gone l) ∙ ap (λ k. take k its) (sym z)))
 

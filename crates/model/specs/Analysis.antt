@@ -10,14 +10,16 @@ use Rattle.model.specs.Records.{Capability, at, cap-in, cap-open, cap-ou
 use Rattle.model.specs.Tables.{Table, isHigh}
 use Rattle.model.specs.declared.Rec.{Rec}
 
--- whether a capability held in label a may act on a partner of label b: one test for the steps and for the rules
+-- whether a capability held in label a may act on a partner of label b: one test for the steps and for the rules.
+-- 01 has no such test
 abbrev pub Permit : Type 0
 Permit = Capability → ℕ → ℕ → Bool
 
--- every capability may act on every partner
+-- every capability may act on every partner: "A boundary never stops a step."
 abbrev pub free : Permit
 free k a b = true
 
+-- b where a is true
 unfoldable pub onlyIf : Bool → Bool → Bool
 onlyIf true b = b
 onlyIf false b = true
@@ -30,7 +32,7 @@ infects T b a = onlyIf (T .S b) (T .S a)
 abbrev pub rowInside : Table → ℕ → ℕ → Bool
 rowInside T b p = every 128 (λ k. T .I b k) (λ k. T .I p k)
 
--- the rule of a capability of label t and name n, "for all labels a, b, p from 0 to 63"
+-- the rule of a capability of label t and name n, "for all labels a, b, p from 0 to 63", which "may be equal"
 unfoldable pub ruleHolds : Permit → Table → Capability → ℕ → ℕ → Bool
 -- "in: if (a, t), (p, a), (p, b) are in I and (b, n) in H, then (b, a) is in I, and if b is in S so is a"
 ruleHolds permit T cap-in t n =
@@ -45,6 +47,7 @@ ruleHolds permit T cap-open t n =
     every 64 (λ p. T .I p t) λ p. every 64 (λ b. T .I p b && (T .H b n && permit cap-open p b)) λ b.
     rowInside T b p && infects T b p
 
+-- the rule of a record, where it is a capability
 unfoldable pub rulesHold : Permit → Table → Option Capability → Rec → Bool
 rulesHold permit T none r = true
 rulesHold permit T (some k) r = ruleHolds permit T k (r .label) (r .name)

@@ -1,7 +1,6 @@
 -- Document 01, "Refusal table" and "Order": for every call which refusals it has and in what order, what it returns,
 -- and what each lent buffer holds afterwards.
 use Prim.Native.Nat.{ℕ}
-use lib.Count.{ones}
 use lib.Dec.{eqb}
 use lib.ListN.{length}
 use mathlib.Core.List.{List}
@@ -35,7 +34,7 @@ checking s policy table =
     (andThen (need (policyRight policy) 7 0)
     (andThen (need (tableRight table) 8 0) (need (holds free policy (records s) (parts (bits table))) 9 0)))
 
--- 01's "accepted": "when it holds and the check has no other cause to refuse"
+-- done is 01's "accepted": "when it holds and the check has no other cause to refuse"
 unfoldable pub checkAnswer : List ℕ → List ℕ → List ℕ → Answer (Unit {0})
 checkAnswer s policy table = answer (checking s policy table) tt
 
@@ -59,6 +58,7 @@ verdictAnswer s policy table = answer (checking s policy table) (verdictOf (part
 unfoldable pub showing : List ℕ → List ℕ → List ℕ → Check
 showing s table buffer = andThen (validity s) (andThen (need (tableRight table) 8 0) (need (eqb (length buffer) (length s)) 14 0))
 
+-- the sheet returns nothing but that it was done
 unfoldable pub sheetAnswer : List ℕ → List ℕ → List ℕ → Answer (Unit {0})
 sheetAnswer s table buffer = answer (showing s table buffer) tt
 
@@ -66,6 +66,7 @@ sheetAnswer s table buffer = answer (showing s table buffer) tt
 unfoldable pub sheetAfter : List ℕ → List ℕ → List ℕ → List ℕ
 sheetAfter s table buffer = content (showing s table buffer) (sheetOf s table) buffer
 
+-- "number, record 0" of a step that is refused
 unfoldable pub metCheck : Outcome → Check
 metCheck (unmet n) = refuse n 0
 metCheck (met k) = pass
@@ -74,6 +75,7 @@ metCheck (met k) = pass
 unfoldable pub stepping : List ℕ → ℕ → ℕ → Check
 stepping s actor partner = andThen (validity s) (metCheck (outcome free (records s) actor partner))
 
+-- a step returns nothing but that it was done
 unfoldable pub stepAnswer : List ℕ → ℕ → ℕ → Answer (Unit {0})
 stepAnswer s actor partner = answer (stepping s actor partner) tt
 
@@ -85,13 +87,15 @@ stepAfter s actor partner = content (validity s) (stepBytes free s actor partner
 unfoldable pub running : List ℕ → List ℕ → List ℕ → Check
 running s script answers = andThen (validity s) (need (scriptRight script (length answers)) 13 0)
 
+-- a run returns its counts
 unfoldable pub runAnswer : List ℕ → List ℕ → List ℕ → Answer Counts
 runAnswer s script answers = answer (running s script answers) (countsOf (outcomes free s (orders script)))
 
--- the lent itinerary and the lent answers after the run
+-- the lent itinerary after the run
 unfoldable pub runAfter : List ℕ → List ℕ → List ℕ → List ℕ
 runAfter s script answers = content (running s script answers) (afterOrders free s (orders script)) s
 
+-- the lent answers after the run
 unfoldable pub runAnswers : List ℕ → List ℕ → List ℕ → List ℕ
 runAnswers s script answers = content (running s script answers) (answersOf free s (orders script)) answers
 
@@ -112,9 +116,10 @@ screenAnswer s policy script answers =
       left = notGone (records (afterOrders free s (orders script)));
     })
 
--- the lent itinerary and the lent answers after the screen
+-- the lent itinerary after the screen
 unfoldable pub screenAfter : List ℕ → List ℕ → List ℕ → List ℕ → List ℕ
 screenAfter s policy script answers = content (screening s policy script answers) (afterOrders free s (orders script)) s
 
+-- the lent answers after the screen
 unfoldable pub screenAnswers : List ℕ → List ℕ → List ℕ → List ℕ → List ℕ
 screenAnswers s policy script answers = content (screening s policy script answers) (answersOf free s (orders script)) answers

@@ -1,4 +1,4 @@
--- Document 01, "Climbing from a record to its parent", "above", "container", "active", "hidden".
+-- Document 01, "Climbing from a record to its parent", "above", "container", "hidden".
 use Prim.Native.Nat.{suc, zero, ℕ}
 use lib.ListN.{length}
 use mathlib.Core.Bool.{Bool, _&&_, false, true}
@@ -29,6 +29,7 @@ viewFrom v its (suc n) (suc i) = v .make (at its (suc i)) (viewFrom v its n (par
 unfoldable pub view : {A : Type 0} → View A → List Rec → ℕ → A
 view v its i = viewFrom v its (suc (length its)) i
 
+-- whether the environment is reached
 abbrev pub reaching : View Bool
 reaching = record { top = true; lost = false; make = λ r x. x }
 
@@ -40,6 +41,7 @@ reaches its i = viewFrom reaching its (length its) i
 unfoldable pub labelled : Rec → ℕ → ℕ
 labelled r x = elim (isAmbient r) [ true ↦ r .label | false ↦ x ]
 
+-- the nearest label, 0 at the environment
 abbrev pub nesting : View ℕ
 nesting = record { top = 0; lost = 0; make = labelled }
 
@@ -51,27 +53,27 @@ nearest its i = view nesting its i
 abbrev pub container : List Rec → ℕ → ℕ
 container its i = nearest its (parentOf its i)
 
+-- the record is an ambient, and what is above is right
 unfoldable pub ambientAnd : Rec → Bool → Bool
 ambientAnd r x = elim (isAmbient r) [ true ↦ x | false ↦ false ]
 
+-- whether all are ambients
 abbrev pub standing : View Bool
 standing = record { top = true; lost = false; make = ambientAnd }
 
--- number i and all records above it are ambients
+-- number i and all records above it are ambients: 01's "active" asks this of a capability's parent (`ready`)
 abbrev pub ambients : List Rec → ℕ → Bool
 ambients its i = view standing its i
-
--- 01's "active": "all records above it are ambients"
-abbrev pub active : List Rec → ℕ → Bool
-active its i = ambients its (parentOf its i)
 
 -- "An ambient is suspect .. as its label is."
 unfoldable pub isSuspect : (ℕ → Bool) → Rec → Bool
 isSuspect S r = isAmbient r && S (r .label)
 
+-- the record is a suspect ambient, or what is above hides
 unfoldable pub hides : (ℕ → Bool) → Rec → Bool → Bool
 hides S r x = elim (isSuspect S r) [ true ↦ true | false ↦ x ]
 
+-- whether one of them is suspect
 abbrev pub hiding : (ℕ → Bool) → View Bool
 hiding S = record { top = false; lost = false; make = hides S }
 

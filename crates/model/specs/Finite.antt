@@ -25,6 +25,7 @@ unfoldable pub tabulate : {A : Type 0} → ℕ → ℕ → (ℕ → A) → List 
 tabulate i zero f = []
 tabulate i (suc n) f = f i ∷ tabulate (suc i) n f
 
+-- 1 for a test that passes, 0 for one that fails
 unfoldable pub digit : Bool → ℕ
 digit true = 1
 digit false = 0

@@ -13,5 +13,6 @@ pub mod Verdicts
 pub mod Scripts
 pub mod Calls
 pub mod Numbers
+pub mod Listing
 pub mod Noninterference
 pub mod Laws

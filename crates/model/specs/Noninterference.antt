@@ -1,32 +1,39 @@
--- Demand 3: what is claimed of two itineraries and one list of steps. Its proof is in Laws/Secrecy.
+-- Demand 3: "two itineraries of equal length with one table accepted for both under one policy, sealed, and equal sheets,
+-- given the same list of steps of any length, refused ones included, singly or in scripts, keep every suspect ambient
+-- under a boundary, keep equal sheets byte for byte, and give equal answers to each step whose actor stood on the sheet."
+-- Its proof is in Laws/Secrecy.
 use Prim.Native.Nat.{_<_, suc, ℕ}
 use lib.ListN.{getD, length, replicate, take}
 use mathlib.Core.Bool.{Bool, false, true}
 use mathlib.Core.List.{List, [], _++_, _∷_}
 use mathlib.Core.Logic.{_≢_}
 use mathlib.Core.Path.{_≡_}
-use Rattle.model.specs.Calls.{runAfter, runAnswers, stepAfter, stepAnswer}
+use Rattle.model.specs.Calls.{checkAnswer, runAfter, runAnswers, stepAfter, stepAnswer, verdictAnswer}
 use Rattle.model.specs.Climbing.{climb}
+use Rattle.model.specs.Least.{bytes}
 use Rattle.model.specs.Observer.{sheetOf}
 use Rattle.model.specs.Records.{at, isAmbient, parentOf, records}
-use Rattle.model.specs.Refusals.{number}
+use Rattle.model.specs.Refusals.{done, number}
 use Rattle.model.specs.Scripts.{Order, orders, scriptRight}
 use Rattle.model.specs.Tables.{isBoundary, suspects}
+use Rattle.model.specs.declared.Verdict.the-variants.{Sealed}
 
 -- "singly or in scripts": a single step, or a script run with its script and the length of its answers
 pub data Event : Type 0 where
   single : (actor partner : ℕ) → Event
-  script : (steps : List ℕ) (room : ℕ) → Event
+  script : (bytes : List ℕ) (room : ℕ) → Event
 
--- the itinerary after an event, and after a list of events
+-- the itinerary after an event
 unfoldable pub afterEvent : List ℕ → Event → List ℕ
 afterEvent s (single actor partner) = stepAfter s actor partner
-afterEvent s (script steps room) = runAfter s steps (replicate room 0)
+afterEvent s (script z room) = runAfter s z (replicate room 0)
 
+-- the itinerary after a list of events
 unfoldable pub after : List ℕ → List Event → List ℕ
 after s [] = s
 after s (e ∷ es) = after (afterEvent s e) es
 
+-- the list where the test passes, and none where it fails
 unfoldable pub kept : {A : Type 0} → Bool → List A → List A
 kept true xs = xs
 kept false xs = []
@@ -34,17 +41,19 @@ kept false xs = []
 -- "A script run stands in it for its steps in order; a run refused with 13 stands for none."
 unfoldable pub stepsOf : Event → List Order
 stepsOf (single actor partner) = record { actor = actor; partner = partner } ∷ []
-stepsOf (script steps room) = kept (scriptRight steps room) (orders steps)
+stepsOf (script z room) = kept (scriptRight z room) (orders z)
 
+-- the flattened list of steps
 unfoldable pub allSteps : List Event → List Order
 allSteps [] = []
 allSteps (e ∷ es) = stepsOf e ++ allSteps es
 
--- the answers that an event gave to its steps, and a list of events to theirs
+-- the answers that an event gave to its steps
 unfoldable pub givenBy : List ℕ → Event → List ℕ
 givenBy s (single actor partner) = number (stepAnswer s actor partner) ∷ []
-givenBy s (script steps room) = kept (scriptRight steps room) (runAnswers s steps (replicate room 0))
+givenBy s (script z room) = kept (scriptRight z room) (runAnswers s z (replicate room 0))
 
+-- the answers that a list of events gave to its steps
 unfoldable pub given : List ℕ → List Event → List ℕ
 given s [] = []
 given s (e ∷ es) = givenBy s e ++ given (afterEvent s e) es
@@ -54,10 +63,11 @@ unfoldable pub afterSteps : List ℕ → List Order → List ℕ
 afterSteps s [] = s
 afterSteps s (m ∷ ms) = afterSteps (stepAfter s (m .actor) (m .partner)) ms
 
--- the n-th step of the list, counted from 0, and the itinerary just before it
+-- the n-th step of the list, counted from 0
 unfoldable pub stepAt : List Event → ℕ → Order
 stepAt es n = getD (allSteps es) n (record { actor = 0; partner = 0 })
 
+-- the itinerary just before the n-th step
 unfoldable pub before : List ℕ → List Event → ℕ → List ℕ
 before s es n = afterSteps s (take n (allSteps es))
 
@@ -74,7 +84,7 @@ abbrev pub SuspectsGuarded : List ℕ → List ℕ → List ℕ → Type 0
 SuspectsGuarded policy table s =
     (i : ℕ) → isAmbient (at (records s) i) ≡ true → suspects table (at (records s) i .label) ≡ true → UnderBoundary policy s i
 
--- record i stands on the sheet
+-- record i stands on the sheet: it is "neither hidden nor gone"
 abbrev pub OnSheet : List ℕ → List ℕ → ℕ → Type 0
 OnSheet table s i = at (records (sheetOf s table)) i .kind ≢ 0
 
@@ -88,3 +98,16 @@ pub record Noninterference (policy table x y : List ℕ) (es : List Event) : Typ
   -- "give equal answers to each step whose actor stood on the sheet"
   pub answers : (n : ℕ) → n < length (allSteps es) → OnSheet table (before x es n) (stepAt es n .actor) →
       getD (given x es) n 0 ≡ getD (given y es) n 0
+
+-- the whole of demand 3
+abbrev pub Demand3 : Type 0
+Demand3 = (policy table x y : List ℕ) →
+    -- "of equal length"
+    length x ≡ length y →
+    -- "one table accepted for both under one policy"
+    checkAnswer x policy table ≡ done tt → checkAnswer y policy table ≡ done tt →
+    -- "sealed"
+    verdictAnswer x policy table ≡ done Sealed →
+    -- "and equal sheets"
+    sheetOf x table ≡ sheetOf y table →
+    (es : List Event) → Noninterference policy table x y es

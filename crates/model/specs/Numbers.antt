@@ -26,6 +26,7 @@ use Rattle.model.specs.declared.Judged.the-variants as judged
 use Rattle.model.specs.declared.Ran.{Ran}
 use Rattle.model.specs.declared.Ran.the-variants as ran
 
+-- by the check of a record
 unfoldable pub readingBy : Check → Rec → Reading
 readingBy pass r = reading.Record r
 readingBy (refuse n i) r = reading.Refused n
@@ -58,6 +59,7 @@ unfoldable pub madeAs : Made → Answer ℕ
 madeAs (made.Done n) = done n
 madeAs (made.Refused r) = refusal r
 
+-- the verdict with its label
 unfoldable pub judgedAs : Judged → Answer Verdict
 judgedAs (judged.Done v) = done v
 judgedAs (judged.Refused r) = refusal r
@@ -67,6 +69,7 @@ unfoldable pub ranAs : Ran → Answer Counts
 ranAs (ran.Done n) = done n
 ranAs (ran.Refused r) = refusal r
 
+-- verdict, bits set, counts, records not gone
 unfoldable pub screenedAs : Screened → Answer Screen
 screenedAs (screened.Done x) = done x
 screenedAs (screened.Refused r) = refusal r

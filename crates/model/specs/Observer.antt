@@ -7,6 +7,7 @@ use Rattle.model.specs.Records.{encode, gone, records, update}
 use Rattle.model.specs.Tables.{suspects}
 use Rattle.model.specs.declared.Rec.{Rec}
 
+-- record i as the sheet has it
 unfoldable pub onSheet : List Rec → (ℕ → Bool) → ℕ → Rec → Rec
 onSheet its S i r = elim (hidden its S i) [ true ↦ gone | false ↦ r ]
 

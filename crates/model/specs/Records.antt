@@ -1,8 +1,8 @@
--- Document 01, "Itinerary records". An itinerary is a list of bytes; `its` is the list of its records.
+-- Document 01, "Itinerary records". 01's "itinerary" is a list of bytes s; `its` is the list of its records.
+-- 01's "environment" is number 0.
 use Prim.Native.Nat.{_%_, _*_, _+_, _/_, suc, zero, ℕ}
 use lib.Dec.{eqb, leb}
 use lib.ListN.{getD, length}
-use lib.Pow.{high}
 use mathlib.Core.Bool.{Bool, _&&_}
 use mathlib.Core.List.{List, [], _∷_}
 use mathlib.Core.Option.{Option, none, some}
@@ -15,7 +15,7 @@ byte s j = getD s j 0
 
 -- "Numbers of two bytes are little-endian."
 abbrev pub word : ℕ → ℕ → ℕ
-word low high = low + 256 * high
+word lo hi = lo + 256 * hi
 
 -- "records of eight bytes, no header": how many there are
 unfoldable pub count : List ℕ → ℕ
@@ -30,6 +30,7 @@ byteOf s (suc i) k = byte s (8 * i + k)
 unfoldable pub decode : List ℕ → ℕ → Rec
 decode s i = record { kind = byteOf s i 0; label = byteOf s i 1; name = byteOf s i 2; parent = word (byteOf s i 4) (byteOf s i 5) }
 
+-- the records of an itinerary, in the order of their numbers
 unfoldable pub records : List ℕ → List Rec
 records s = tabulate 1 (count s) (decode s)
 
@@ -38,7 +39,7 @@ unfoldable pub encode : List Rec → List ℕ
 encode [] = []
 encode (r ∷ rs) = r .kind ∷ r .label ∷ r .name ∷ 0 ∷ r .parent % 256 ∷ r .parent / 256 ∷ 0 ∷ 0 ∷ encode rs
 
--- "A gone record is eight zero bytes."
+-- 01's "gone": "A gone record is eight zero bytes."
 abbrev pub gone : Rec
 gone = record { kind = 0; label = 0; name = 0; parent = 0 }
 
@@ -47,9 +48,11 @@ unfoldable pub at : List Rec → ℕ → Rec
 at its zero = gone
 at its (suc i) = getD its i gone
 
+-- the parent's number of record i
 abbrev pub parentOf : List Rec → ℕ → ℕ
 parentOf its i = at its i .parent
 
+-- the list whose records are numbered from k on, each changed by f
 unfoldable pub updateFrom : (ℕ → Rec → Rec) → ℕ → List Rec → List Rec
 updateFrom f k [] = []
 updateFrom f k (r ∷ rs) = f k r ∷ updateFrom f (suc k) rs
@@ -75,6 +78,6 @@ capability (suc (suc (suc zero))) = some cap-out
 capability (suc (suc (suc (suc zero)))) = some cap-open
 capability (suc (suc (suc (suc (suc k))))) = none
 
--- an ambient or a capability: what a table speaks of
+-- "each ambient or capability": the records that a table speaks of
 unfoldable pub nested : Rec → Bool
 nested r = leb 1 (r .kind) && leb (r .kind) 4

@@ -1,17 +1,16 @@
 -- Document 01, "Refusal table": what a check and a call answer, and what refused calls leave.
 use Prim.Native.Nat.{suc, zero, ℕ}
 use mathlib.Core.Bool.{Bool, false, true}
-use Rattle.model.specs.Records.{at}
 
--- a check passes, or it refuses with a number and a record
+-- a check passes, or it refuses with the number n at the record r
 pub data Check : Type 0 where
   pass : Check
-  refuse : (number at : ℕ) → Check
+  refuse : (n r : ℕ) → Check
 
 -- the answer of a call: done, with what it returns, or refused: "returned: number, record"
 pub data Answer (A : Type 0) : Type 0 where
   done : A → Answer A
-  refused : (number at : ℕ) → Answer A
+  refused : (n r : ℕ) → Answer A
 
 -- refuses with number n at record r unless the test is true
 unfoldable pub need : Bool → ℕ → ℕ → Check

@@ -1,4 +1,4 @@
--- Document 01, "Script run".
+-- Document 01, "Script run". 01's "script" is a list of bytes z.
 use Prim.Native.Nat.{_%_, _*_, _+_, _/_, ℕ}
 use lib.Dec.{eqb, leb}
 use lib.ListN.{length}
@@ -11,7 +11,7 @@ use Rattle.model.specs.Steps.{Outcome, answerOf, met, outcome, stepBytes
 use Rattle.model.specs.declared.Counts.{Counts}
 use Rattle.model.specs.declared.Rec.{Rec}
 
--- "A step names an actor and a partner."
+-- "A step names an actor and a partner", both 01's terms
 pub record Order : Type 0 where
   pub actor : ℕ
   pub partner : ℕ
@@ -20,6 +20,7 @@ pub record Order : Type 0 where
 unfoldable pub orderAt : List ℕ → ℕ → Order
 orderAt z k = record { actor = word (byte z (4 * k)) (byte z (4 * k + 1)); partner = word (byte z (4 * k + 2)) (byte z (4 * k + 3)) }
 
+-- the steps of a script, in order
 unfoldable pub orders : List ℕ → List Order
 orders z = tabulate 0 (length z / 4) (orderAt z)
 
@@ -47,6 +48,7 @@ kindOf cap-in = 2
 kindOf cap-out = 3
 kindOf cap-open = 4
 
+-- 1 for a step of this kind that was done
 unfoldable pub doneBy : ℕ → Outcome → ℕ
 doneBy kind (unmet n) = 0
 doneBy kind (met k) = elim (eqb kind (kindOf k)) [ true ↦ 1 | false ↦ 0 ]

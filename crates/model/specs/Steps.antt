@@ -14,6 +14,7 @@ use Rattle.model.specs.declared.Rec.{Rec}
 abbrev pub to : ℕ → Rec → Rec
 to q r = record { kind = r .kind; label = r .label; name = r .name; parent = q }
 
+-- record i where t becomes a's parent
 unfoldable pub placed : ℕ → ℕ → ℕ → Rec → Rec
 placed a t i r = elim (eqb i a) [ true ↦ to t r | false ↦ r ]
 
@@ -21,6 +22,7 @@ placed a t i r = elim (eqb i a) [ true ↦ to t r | false ↦ r ]
 unfoldable pub place : ℕ → ℕ → List Rec → List Rec
 place a t its = update (placed a t) its
 
+-- record i where x goes and its children go to q
 unfoldable pub dissolved : ℕ → ℕ → ℕ → Rec → Rec
 dissolved x q i r = elim (eqb i x) [ true ↦ gone | false ↦ elim (eqb (r .parent) x) [ true ↦ to q r | false ↦ r ] ]
 
@@ -28,7 +30,8 @@ dissolved x q i r = elim (eqb i x) [ true ↦ gone | false ↦ elim (eqb (r .par
 unfoldable pub dissolve : ℕ → List Rec → List Rec
 dissolve x its = update (dissolved x (parentOf its x)) its
 
--- the actor c, whose parent is q, is active; "In and out need an ambient a as c's parent."
+-- the actor, whose parent is q, is 01's "active": "all records above it are ambients".
+-- "In and out need an ambient a as c's parent."
 unfoldable pub ready : Capability → List Rec → ℕ → Bool
 ready cap-in its q = isAmbient (at its q) && ambients its q
 ready cap-out its q = isAmbient (at its q) && ambients its q
@@ -74,9 +77,11 @@ unfoldable pub outcomeBy : Permit → Option Capability → List Rec → ℕ →
 outcomeBy permit none its c b = unmet 10
 outcomeBy permit (some k) its c b = decide k (ready k its (parentOf its c)) (fit permit k its c b)
 
+-- the outcome of a step by the actor c with the partner b
 unfoldable pub outcome : Permit → List Rec → ℕ → ℕ → Outcome
 outcome permit its c b = outcomeBy permit (capability (at its c .kind)) its c b
 
+-- the records after a step with this outcome
 unfoldable pub effect : Outcome → List Rec → ℕ → ℕ → List Rec
 effect (unmet n) its c b = its
 effect (met k) its c b = move k its c b
@@ -90,6 +95,7 @@ unfoldable pub answerOf : Outcome → ℕ
 answerOf (unmet n) = n
 answerOf (met k) = 0
 
+-- the bytes after a step with this outcome
 unfoldable pub rewritten : Outcome → List ℕ → ℕ → ℕ → List ℕ
 rewritten (unmet n) s c b = s
 rewritten (met k) s c b = encode (move k (records s) c b)

@@ -1,4 +1,4 @@
--- Document 01, "Policy and table", refusals 7 and 8, and the row request.
+-- Document 01, "Policy and table", refusals 7 and 8, and the row request. 01's "policy" and "table" are lists of bytes.
 use Prim.Native.Nat.{_%_, _*_, _+_, _/_, _^_, ℕ}
 use lib.Count.{ones}
 use lib.Dec.{eqb, leb}
@@ -8,10 +8,11 @@ use mathlib.Core.List.{List, [], _∷_}
 use Rattle.model.specs.Finite.{every}
 use Rattle.model.specs.Records.{byte}
 
--- "0 low, 1 high, 2 boundary"
+-- 01's "high" and "boundary" labels: "0 low, 1 high, 2 boundary"
 unfoldable pub isHigh : List ℕ → ℕ → Bool
 isHigh policy k = eqb (byte policy k) 1
 
+-- "2 boundary"
 unfoldable pub isBoundary : List ℕ → ℕ → Bool
 isBoundary policy k = eqb (byte policy k) 2
 
@@ -37,13 +38,15 @@ pub record Table : Type 0 where
   pub H : ℕ → ℕ → Bool
   pub S : ℕ → Bool
 
--- I: from bit 0, a row of 128 bits for each label; H: from byte 1,024, a row of 64 bits; S: from byte 1,536
+-- "I: bytes 0 to 1,023, a row of 16 bytes for each label 0 to 63": the number of a bit in all the table
 unfoldable pub placeI : ℕ → ℕ → ℕ
 placeI a k = 128 * a + k
 
+-- "H: bytes 1,024 to 1,535, a row of 8 bytes for each label"
 unfoldable pub placeH : ℕ → ℕ → ℕ
 placeH a n = 8192 + (64 * a + n)
 
+-- "S: bytes 1,536 to 1,543"
 unfoldable pub placeS : ℕ → ℕ
 placeS k = 12288 + k
 
@@ -65,11 +68,13 @@ tableRight table =
     tableSized table
     && (every 64 (λ a. true) (λ a. not (bits table (placeI a 0))) && every 64 (λ n. true) (λ n. not (bits table (placeH 0 n))))
 
+-- the part, or the empty one
 unfoldable pub partIf : Bool → List ℕ → List ℕ
 partIf true part = part
 partIf false part = []
 
--- the row request: "the 16 bytes of a label's row", the empty part "for a label above 63 or a table not 1,544 long"
+-- the row request's content (that it is "that very part of the lent table" the call's contract says of its place):
+-- "the 16 bytes of a label's row", the empty part "for a label above 63 or a table not 1,544 long"
 unfoldable pub rowOf : List ℕ → ℕ → List ℕ
 rowOf table label = partIf (tableSized table && leb label 63) (take 16 (drop (16 * label) table))
 

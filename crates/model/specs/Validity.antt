@@ -1,4 +1,5 @@
--- Document 01, "Itinerary records" and refusals 1 to 6.
+-- Document 01, "Itinerary records" and refusals 1 to 6. A test named .. Right quotes the cause of a refusal, and is
+-- true where that cause is absent.
 use Prim.Native.Nat.{_%_, suc, zero, ℕ}
 use lib.Dec.{eqb, leb}
 use lib.ListN.{length}
@@ -22,6 +23,7 @@ kindRight r = leb (r .kind) 4
 unfoldable pub spareRight : List ℕ → ℕ → Bool
 spareRight s i = eqb (byteOf s i 3) 0 && (eqb (byteOf s i 6) 0 && eqb (byteOf s i 7) 0)
 
+-- where the record is gone, its other fields are 0
 unfoldable pub blank : Bool → Rec → Bool
 blank true r = eqb (r .label) 0 && (eqb (r .name) 0 && eqb (r .parent) 0)
 blank false r = true
@@ -35,19 +37,21 @@ unfoldable pub labelIn : Bool → ℕ → Bool
 labelIn true l = leb 1 l && leb l 63
 labelIn false l = leb 64 l && leb l 127
 
+-- by whether the record is an ambient or a capability
 unfoldable pub labelBy : Bool → Bool → ℕ → Bool
 labelBy true ambient l = labelIn ambient l
 labelBy false ambient l = eqb l 0
 
--- 3: "label wrong for its kind"; what is neither ambient nor capability has label 0
+-- 3: "label wrong for its kind" (a gone record has label 0 after 2)
 unfoldable pub labelRight : Rec → Bool
 labelRight r = labelBy (nested r) (isAmbient r) (r .label)
 
+-- by whether the record is an ambient or a capability
 unfoldable pub nameBy : Bool → ℕ → Bool
 nameBy true n = leb n 63
 nameBy false n = eqb n 0
 
--- 4: "name over 63"; what is neither ambient nor capability has name 0
+-- 4: "name over 63" (a gone record has name 0 after 2)
 unfoldable pub nameRight : Rec → Bool
 nameRight r = nameBy (nested r) (r .name)
 

@@ -14,6 +14,7 @@ use Rattle.model.specs.declared.Verdict.the-variants.{Exposed, Hinted, S
 unfoldable pub marked : List Bool → ℕ → Bool
 marked R k = getD R k false
 
+-- two lists of equal length have the same marks
 unfoldable pub alike : List Bool → List Bool → Bool
 alike [] ys = true
 alike (x ∷ xs) [] = true
@@ -23,6 +24,7 @@ alike (x ∷ xs) (y ∷ ys) = Bool·beq x y && alike xs ys
 unfoldable pub joins : ℕ → (ℕ → ℕ → Bool) → List Bool → ℕ → Bool
 joins m edge R k = marked R k || someOf m (marked R) (λ x. edge x k)
 
+-- all that are marked or joined by an edge
 unfoldable pub grown : ℕ → (ℕ → ℕ → Bool) → List Bool → List Bool
 grown m edge R = tabulate 0 m (joins m edge R)
 
@@ -39,11 +41,11 @@ reached m edge = growing m edge m (tabulate 0 m (λ k. eqb k 0))
 unfoldable pub opening : Table → List ℕ → ℕ → ℕ → Bool
 opening T policy x k = T .I x k && not (isBoundary policy x)
 
--- 01's R
+-- 01's R: "the least set with 0 in it, and with each ambient label k" so reached (least: `R-least`)
 unfoldable pub inR : Table → List ℕ → ℕ → Bool
 inR T policy k = marked (reached 64 (opening T policy)) k
 
--- "exposed with the lowest such label. Otherwise .. hinted with the lowest label of both. Otherwise sealed."
+-- 01's verdicts: "exposed with the lowest such label. Otherwise .. hinted with the lowest label of both. Otherwise sealed."
 unfoldable pub verdictBy : Option ℕ → Option ℕ → Verdict
 verdictBy (some k) both = Exposed k
 verdictBy none (some k) = Hinted k

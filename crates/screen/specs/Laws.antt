@@ -76,7 +76,11 @@ module _ (s policy script answers table : List ℕ) (size : length table ≡ 154
     -- the screen is done: what it returns, and what it leaves
     pub screen-done : (c : Counts) → runAnswer s script answers ≡ done c →
         (screenAnswer s policy script answers ≡ done (record {
-          verdict = verdictOf (parts (bits (makeAfter s policy table))) policy; ones = m; counts = c; left = notGone (records (runAfter s script answers)) }))
+          verdict = verdictOf (parts (bits (makeAfter s policy table))) policy;
+          ones = m;
+          counts = c;
+          left = notGone (records (runAfter s script answers));
+        }))
         × (screenAfter s policy script answers ≡ runAfter s script answers)
         × (screenAnswers s policy script answers ≡ runAnswers s script answers)
     unfolding screenAnswer screenAfter screenAnswers runAnswer runAfter runAnswers makeAnswer makeAfter answer content

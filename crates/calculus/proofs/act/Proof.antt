@@ -24,7 +24,7 @@ same-length c = search needs
 
 returns : tie.Need-returns
 unfolding decisionNumber
-returns c =     let q = c .before .enum-told .given .1 in
+returns c = let q = c .before .enum-told .given .1 in
     let w = act-refused _ _ _ (sym (c .before .before .before .decide .ensures) ∙ q) in
     (c .number-of .ensures ∙ ap decisionNumber q ∙ w .0, w .1)
 
@@ -35,7 +35,7 @@ same-length-2 : tie.Need-same-length-2
 same-length-2 c = search needs
 
 returns-2 : tie.Need-returns-2
-returns-2 c =     let w = act-done _ _ _ (c .before .before .before .before .before .before .before .before .before .before .pre) (sym (c .before .before .before .before .before .before .before .decide .ensures) ∙ c .before .before .before .before .before .d .given .1) in
+returns-2 c = let w = act-done _ _ _ (c .before .before .before .before .before .before .before .before .before .before .pre) (sym (c .before .before .before .before .before .before .before .decide .ensures) ∙ c .before .before .before .before .before .d .given .1) in
     (w .0, c .before .before .apply .ensures ∙ w .1)
 
 pub act-spec : {M : Type 1} → statement M

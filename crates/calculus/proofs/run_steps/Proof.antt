@@ -52,11 +52,14 @@ loop-less : tie.Need-loop-less Inv-loop μ-loop
 loop-less c = omega arith
 
 loop-again : tie.Need-loop-again Inv-loop μ-loop
-loop-again c =     let w = c .before .before .before .before .before .before .before .before .before .before .loop .inv .3 in
-    let v = running-valid w (omega arith) (omega arith) (c .before .before .before .before .before .before .before .before .before .before .before .before .before .before .pre .0) in
-    (omega arith, c .before .before .before .before .before .before .before .before .before .before .loop .inv .1, c .before .before .before .before .before .before .before .before .before .before .loop .inv .2,
-    running-next w (omega arith) (omega arith) (valid-whole _ v) (c .before .before .before .before .before .before .before .before .word-at .ensures) (c .before .before .before .before .before .before .before .word-at2 .ensures) (c .before .before .before .before .before .byte-of .ensures) (c .before .before .before .act .ensures .0)
-    _ _ (c .before .before .before .act .ensures .1) (c .before .before .before .act .kept .0) (c .counted .ensures))
+loop-again c = let w = c .before .before .before .before .before .before .before .before .before .before .loop .inv .3 in
+    let v = running-valid w (omega arith) (omega arith) (c .before .before .before .before .before .before .before .before .before .before .before .before .before .before .pre .0) in (
+      omega arith,
+      c .before .before .before .before .before .before .before .before .before .before .loop .inv .1,
+      c .before .before .before .before .before .before .before .before .before .before .loop .inv .2,
+      running-next w (omega arith) (omega arith) (valid-whole _ v) (c .before .before .before .before .before .before .before .before .word-at .ensures) (c .before .before .before .before .before .before .before .word-at2 .ensures) (c .before .before .before .before .before .byte-of .ensures) (c .before .before .before .act .ensures .0)
+          _ _ (c .before .before .before .act .ensures .1) (c .before .before .before .act .kept .0) (c .counted .ensures),
+    )
 
 same-length : tie.Need-same-length Inv-loop μ-loop
 same-length c = c .before .loop .inv .3 .long

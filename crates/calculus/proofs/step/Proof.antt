@@ -20,7 +20,7 @@ same-length c = search needs
 
 returns : tie.Need-returns
 unfolding performedAs stepAnswer stepping stepAfter
-returns c =     let e = validate-refuse _ _ (c .before .before .before .validate .ensures) (c .before .seen .given .1) in
+returns c = let e = validate-refuse _ _ (c .before .before .before .validate .ensures) (c .before .seen .given .1) in
     (refuse-answer _ _ (then-refuse _ e), content-kept _ _ e)
 
 enum-told : tie.Need-enum-told
@@ -34,7 +34,7 @@ same-length-2 c = search needs
 
 returns-2 : tie.Need-returns-2
 unfolding performedAs
-returns-2 c =     let v = validate-pass _ _ (c .before .before .before .before .before .before .before .validate .ensures) (c .before .before .before .before .before .enum-told .given .1) in
+returns-2 c = let v = validate-pass _ _ (c .before .before .before .before .before .before .before .validate .ensures) (c .before .before .before .before .before .enum-told .given .1) in
     (step-done _ _ _ _ v (c .before .before .before .act .ensures .0) (c .if1 .taken), c .before .before .before .act .ensures .1 ∙ sym (step-after _ v _ _))
 
 same-length-3 : tie.Need-same-length-3
@@ -42,7 +42,7 @@ same-length-3 c = search needs
 
 returns-3 : tie.Need-returns-3
 unfolding performedAs refusal
-returns-3 c =     let v = validate-pass _ _ (c .before .before .before .before .before .before .before .validate .ensures) (c .before .before .before .before .before .enum-told .given .1) in
+returns-3 c = let v = validate-pass _ _ (c .before .before .before .before .before .before .before .validate .ensures) (c .before .before .before .before .before .enum-told .given .1) in
     (step-refused _ _ _ _ v (c .before .before .before .act .ensures .0) (c .if1 .left), c .before .before .before .act .ensures .1 ∙ sym (step-after _ v _ _))
 
 pub step-spec : {M : Type 1} → statement M

@@ -101,7 +101,7 @@ climb-returns-4 : (t : ℕ) → climb-lts.Need-returns-4 (
   climb-below t,
   climb.Post,
 ) (climb-at t) climb.Post
-climb-returns-4 t c =     let f = c .before .before .before .climb .ensures in
+climb-returns-4 t c = let f = c .before .before .before .climb .ensures in
     let g = found-on _ _ _ (c .before .before .before .before .before .before .before .before .before .before .before .before .pre .1 .whole) (c .before .before .before .before .before .before .before .before .before .if1 .left) (c .before .before .before .before .before .before .if3 .left) _ (c .before .before .before .before .before .record-at .ensures) (rw (c .if4 .taken) at (f .0)) in
     (g, known-more _ _ _ (f .1) (g .found refl))
 
@@ -119,7 +119,7 @@ climb-returns-5 : (t : ℕ) → climb-lts.Need-returns-5 (
   climb-below t,
   climb.Post,
 ) (climb-at t) climb.Post
-climb-returns-5 t c =     let f = c .before .before .before .climb .ensures in
+climb-returns-5 t c = let f = c .before .before .before .climb .ensures in
     (found-on _ _ _ (c .before .before .before .before .before .before .before .before .before .before .before .before .pre .1 .whole) (c .before .before .before .before .before .before .before .before .before .if1 .left) (c .before .before .before .before .before .before .if3 .left) _ (c .before .before .before .before .before .record-at .ensures) (rw (c .if4 .left) at (f .0)), f .1)
 
 pub +climb-spec : {M : Type 1} → statement M

@@ -40,10 +40,12 @@ loop-less : tie.Need-loop-less Inv-loop μ-loop
 loop-less c = search needs
 
 loop-again : tie.Need-loop-again Inv-loop μ-loop
-loop-again c =     (climbable 0 (c .before .before .before .before .before .before .loop .inv .0) (c .before .before .before .climb .kept .1 .0) (c .before .before .before .climb .ensures .1) (c .before .before .before .before .before .before .loop .inv .0 .inside),
-    c .before .before .before .climb .kept .1 .0 ∙ c .before .before .before .before .before .before .loop .inv .1,
-    omega arith,
-    c .before .before .before .before .before .before .loop .inv .3 ∙ rest-next _ _ _ (c .before .before .before .before .before .loop-test .taken) (found-pass _ _ (c .before .before .before .before .before .before .loop .inv .0) (c .before .before .before .before .before .before .before .before .before .pre .1) (omega arith) (c .before .before .before .climb .ensures .0) (not-false _ (c .if1 .left))))
+loop-again c = (
+  climbable 0 (c .before .before .before .before .before .before .loop .inv .0) (c .before .before .before .climb .kept .1 .0) (c .before .before .before .climb .ensures .1) (c .before .before .before .before .before .before .loop .inv .0 .inside),
+  c .before .before .before .climb .kept .1 .0 ∙ c .before .before .before .before .before .before .loop .inv .1,
+  omega arith,
+  c .before .before .before .before .before .before .loop .inv .3 ∙ rest-next _ _ _ (c .before .before .before .before .before .loop-test .taken) (found-pass _ _ (c .before .before .before .before .before .before .loop .inv .0) (c .before .before .before .before .before .before .before .before .before .pre .1) (omega arith) (c .before .before .before .climb .ensures .0) (not-false _ (c .if1 .left))),
+)
 
 same-length-2 : tie.Need-same-length-2 Inv-loop μ-loop
 same-length-2 c = c .before .loop .inv .1

@@ -38,7 +38,7 @@ number-of-requires c κs = search needs
 
 returns : tie.Need-returns Inv-loop μ-loop
 unfolding readingNumber validatedAs
-returns c =     let q = c .before .enum-told2 .given .1 in
+returns c = let q = c .before .enum-told2 .given .1 in
     refuse-answer _ _ (c .before .before .before .before .before .loop .inv .1 ∙ rest-refuse _ _ _ _ _ (c .before .before .before .before .loop-test .taken) (reading-refuse _ _ _ (sym (c .before .before .before .read-record .ensures) ∙ q ∙ ap Refused (sym (c .number-of .ensures ∙ ap readingNumber q)))))
 
 loop-less : tie.Need-loop-less Inv-loop μ-loop

@@ -31,7 +31,7 @@ enum-told-2 c = search needs
 
 returns-2 : tie.Need-returns-2
 unfolding validatedAs validateAnswer sizeRight count
-returns-2 c =     let q = c .enum-told2 .given .1 in
+returns-2 c = let q = c .enum-told2 .given .1 in
     ap validatedAs q ∙ refuse-answer _ _ (valid-read _ (not-false _ (c .before .before .before .if1 .left)) (validated-refuse _ _ _ (c .before .before .first-unread .ensures) q))
 
 climbs-requires : tie.Need-climbs-requires
@@ -40,7 +40,7 @@ climbs-requires c κs = (parented _ (not-false _ (c .before .before .before .if1
 
 returns-3 : tie.Need-returns-3
 unfolding sizeRight count
-returns-3 c =     c .climbs .ensures ∙ valid-climb _ (not-false _ (c .before .before .before .before .if1 .left)) (validated-pass _ _ _ (c .before .before .before .first-unread .ensures) (c .before .enum-told .given .1))
+returns-3 c = c .climbs .ensures ∙ valid-climb _ (not-false _ (c .before .before .before .before .if1 .left)) (validated-pass _ _ _ (c .before .before .before .first-unread .ensures) (c .before .enum-told .given .1))
 
 pub validate-spec : {M : Type 1} → statement M
 validate-spec =

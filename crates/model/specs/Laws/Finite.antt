@@ -8,7 +8,6 @@ use native.Mathlib.Decide.{ℕ-discrete}
 use native.Mathlib.Nat.{add-suc, add-zero, suc-add}
 use native.Mathlib.Omega.{arith}
 use Rattle.model.specs.Finite.{every, lowest, someOf, tabulate}
-use Rattle.model.specs.Records.{at}
 
 module _ (t f : ℕ → Bool) where
   pub every-skip : (n : ℕ) → t n ≡ false → every (suc n) t f ≡ every n t f

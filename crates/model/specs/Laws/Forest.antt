@@ -8,7 +8,6 @@ use mathlib.Core.Path.{_∙_, _≡_, ap, refl, subst, sym}
 use native.Mathlib.Decide.{ℕ-discrete}
 use native.Mathlib.Omega.{arith}
 use Rattle.model.specs.Finite.{digit, tally}
-use Rattle.model.specs.Records.{at}
 
 -- i stands d climbs below the root
 pub data Depth (p : ℕ → ℕ) : ℕ → ℕ → Type 0 where

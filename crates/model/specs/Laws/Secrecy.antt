@@ -1,16 +1,15 @@
 -- Demand 3, and subject reduction over lists of events, on bytes.
 use Prim.Native.Nat.{_<_, ℕ}
-use borrow.Author.Tests.{eqb-true, ne-eqb}
+use borrow.Author.Tests.{eq-eqb, eqb-true, ne-eqb}
 use lib.Dec.{eqb, leb}
 use lib.ListN.{getD, length, take}
-use lib.Pow.{high}
 use mathlib.Core.Bool.{false, true}
 use mathlib.Core.List.{List, [], _∷_}
 use mathlib.Core.Logic.{_≢_}
 use mathlib.Core.Path.{_∙_, _≡_, ap, refl, sym}
 use native.Mathlib.Omega.{arith}
 use Rattle.model.specs.Analysis.{Permit, free}
-use Rattle.model.specs.Calls.{checkAnswer, checking, verdictAnswer}
+use Rattle.model.specs.Calls.{checkAnswer, checking, sheetAfter, showing, verdictAnswer}
 use Rattle.model.specs.Finite.{every}
 use Rattle.model.specs.Laws.Boundary.{Closed, environment-clear, sealed-closed, suspect-guarded}
 use Rattle.model.specs.Laws.Bytes.{records-encode, valid-wf}
@@ -22,10 +21,10 @@ use Rattle.model.specs.Laws.Sheet.{by-hidden, sheet-hidden}
 use Rattle.model.specs.Laws.Simulation.{same-outcome, sheet-step}
 use Rattle.model.specs.Laws.SubjectReduction.{step-holds}
 use Rattle.model.specs.Laws.WellFormed.{and-right, small}
-use Rattle.model.specs.Noninterference.{Event, Noninterference, OnSheet, SuspectsGuarded, UnderBoundary, after, allSteps, before, given, stepAt}
+use Rattle.model.specs.Noninterference.{Demand3, Event, OnSheet, SuspectsGuarded, UnderBoundary, after, allSteps, before, given, stepAt}
 use Rattle.model.specs.Observer.{sheet, sheetOf}
 use Rattle.model.specs.Records.{at, byte, encode, isAmbient, records}
-use Rattle.model.specs.Refusals.{answer, done, pass}
+use Rattle.model.specs.Refusals.{answer, content, done, pass}
 use Rattle.model.specs.Scripts.{Order, afterOrders}
 use Rattle.model.specs.Steps.{answerOf, outcome, step, stepBytes}
 use Rattle.model.specs.Tables.{Table, bits, isBoundary, isHigh, parts, policyRight, suspects, tableRight}
@@ -127,9 +126,7 @@ accepted-after es s policy table h =
     rw (after-steps es s (w .valid)) (accept _ policy table (record { valid = k .valid; policy-right = w .policy-right; table-right = w .table-right; holding = k .holding }))
 
 -- demand 3
-pub noninterference : (policy table x y : List ℕ) → length x ≡ length y →
-    checkAnswer x policy table ≡ done tt → checkAnswer y policy table ≡ done tt → verdictAnswer x policy table ≡ done Sealed →
-    sheetOf x table ≡ sheetOf y table → (es : List Event) → Noninterference policy table x y es
+pub noninterference : Demand3
 unfolding sheetOf before stepAt verdictAnswer
 noninterference policy table x y size hx hy v same es = record {
   guarded = guard x ax;
@@ -184,9 +181,17 @@ noninterference policy table x y size hx hy v same es = record {
         shown : at (sheet (records (afterOrders free x (take n (allSteps es)))) (T .S)) (stepAt es n .actor) .kind ≡ 0 → at (records (sheetOf (before x es n) table)) (stepAt es n .actor) .kind ≡ 0
         shown k = ap (λ s. at (records (sheetOf s table)) (stepAt es n .actor) .kind) (single-steps (take n (allSteps es)) x (ax .valid)) ∙ ap (λ l. at l (stepAt es n .actor) .kind) (sheet-records _ table) ∙ k
 
--- "and so every high one": every high ambient has a boundary ambient above it too, after every list of events
-pub high-guarded : (policy table x y : List ℕ) (es : List Event) → checkAnswer x policy table ≡ done tt → Noninterference policy table x y es →
-    (i : ℕ) → isAmbient (at (records (after x es)) i) ≡ true → isHigh policy (at (records (after x es)) i .label) ≡ true → UnderBoundary policy (after x es) i
-high-guarded policy table x y es h w i e q =
-    let a = accepted (after x es) policy table (accepted-after es x policy table h) in
-    w .guarded i e (a .holding .high _ (small (valid-wf (after x es) (a .valid)) i e) q)
+-- and so every high ambient: under an accepted table a high label is suspect
+pub high-guarded : (policy table s : List ℕ) → checkAnswer s policy table ≡ done tt → SuspectsGuarded policy table s →
+    (i : ℕ) → isAmbient (at (records s) i) ≡ true → isHigh policy (at (records s) i .label) ≡ true → UnderBoundary policy s i
+high-guarded policy table s h w i e q =
+    let a = accepted s policy table h in
+    w i e (a .holding .high _ (small (valid-wf s (a .valid)) i e) q)
+
+-- the sheet call writes the sheet that demand 3 speaks of
+pub sheet-written : (s policy table buffer : List ℕ) → checkAnswer s policy table ≡ done tt → length buffer ≡ length s → sheetAfter s table buffer ≡ sheetOf s table
+unfolding sheetAfter showing content
+sheet-written s policy table buffer h e =
+    let a = accepted s policy table h in
+    let c : showing s table buffer ≡ pass = then-make (a .valid) (then-make (need-make 8 0 (a .table-right)) (need-make 14 0 (eq-eqb _ _ e))) in
+    rw (c, content)

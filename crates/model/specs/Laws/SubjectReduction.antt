@@ -1,7 +1,6 @@
 -- Subject reduction: a step that is done keeps a table that holds. S plays no part in it.
 use Prim.Native.Nat.{ℕ}
 use lib.Dec.{eqb}
-use lib.Pow.{high}
 use mathlib.Core.Bool.{Bool, false, true}
 use mathlib.Core.List.{List}
 use mathlib.Core.Option.{some}

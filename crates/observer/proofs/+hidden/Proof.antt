@@ -124,7 +124,7 @@ hidden-returns-5 : (t : ℕ) → hidden-lts.Need-returns-5 (
   hidden-below t,
   hidden.Post,
 ) (hidden-at t) hidden.Post
-hidden-returns-5 t c =     let h = hidden-here _ (c .before .before .before .before .before .before .before .before .before .before .before .pre .1 .0 .valid) _ _ (c .before .before .record-at .ensures) _ (sym (c .before .suspect .ensures) ∙ c .if5 .taken) in
+hidden-returns-5 t c = let h = hidden-here _ (c .before .before .before .before .before .before .before .before .before .before .before .pre .1 .0 .valid) _ _ (c .before .before .record-at .ensures) _ (sym (c .before .suspect .ensures) ∙ c .if5 .taken) in
     (sym h, mark-unseen (c .before .before .before .before .before .before .before .before .before .before .before .pre .1 .0 .marked) _ (omega (arith, c .before .before .before .before .before .before .before .before .before .before .before .pre .1 .0 .room, c .before .before .before .before .before .before .before .before .before .before .before .pre .1 .1 .inside)) h)
 
 hidden-sub-hidden : (t : ℕ) → hidden-lts.Need-sub-hidden (
@@ -175,7 +175,7 @@ hidden-returns-6 : (t : ℕ) → hidden-lts.Need-returns-6 (
   hidden-below t,
   hidden.Post,
 ) (hidden-at t) hidden.Post
-hidden-returns-6 t c =     let f = c .before .before .before .hidden .ensures in
+hidden-returns-6 t c = let f = c .before .before .before .hidden .ensures in
     let h = sym (sym (c .if6 .taken) ∙ f .0 ∙ hidden-above _ (c .before .before .before .before .before .before .before .before .before .before .before .before .before .before .before .before .pre .1 .0 .valid) _ _ (c .before .before .before .before .before .before .before .record-at .ensures) _ (c .before .before .before .before .before .before .before .before .before .before .before .before .if1 .left) (sym (c .before .before .before .before .before .before .suspect .ensures) ∙ c .before .before .before .before .before .if5 .left)) in
     (sym h, mark-unseen (f .1) _ (omega (arith, c .before .before .before .before .before .before .before .before .before .before .before .before .before .before .before .before .pre .1 .0 .room, c .before .before .before .before .before .before .before .before .before .before .before .before .before .before .before .before .pre .1 .1 .inside, c .before .before .before .hidden .kept .1 .1 .0)) h)
 
@@ -207,7 +207,7 @@ hidden-returns-7 : (t : ℕ) → hidden-lts.Need-returns-7 (
   hidden-below t,
   hidden.Post,
 ) (hidden-at t) hidden.Post
-hidden-returns-7 t c =     let f = c .before .before .before .hidden .ensures in
+hidden-returns-7 t c = let f = c .before .before .before .hidden .ensures in
     let h = sym (sym (c .if6 .left) ∙ f .0 ∙ hidden-above _ (c .before .before .before .before .before .before .before .before .before .before .before .before .before .before .before .before .pre .1 .0 .valid) _ _ (c .before .before .before .before .before .before .before .record-at .ensures) _ (c .before .before .before .before .before .before .before .before .before .before .before .before .if1 .left) (sym (c .before .before .before .before .before .before .suspect .ensures) ∙ c .before .before .before .before .before .if5 .left)) in
     (sym h, mark-seen (f .1) _ (omega (arith, c .before .before .before .before .before .before .before .before .before .before .before .before .before .before .before .before .pre .1 .0 .room, c .before .before .before .before .before .before .before .before .before .before .before .before .before .before .before .before .pre .1 .1 .inside, c .before .before .before .hidden .kept .1 .1 .0)) h)
 

@@ -60,8 +60,12 @@ loop-less c = omega arith
 
 loop-again : tie.Need-loop-again Inv-loop μ-loop
 unfolding count
-loop-again c =     (omega arith, markable (c .before .before .before .before .before .before .before .before .before .before .before .loop .inv .1) (c .before .before .before .before .before .before .before .before .hidden .kept .1 .1 .0) (c .before .before .before .before .before .before .before .before .hidden .ensures .1), c .before .before .before .before .before .before .before .before .hidden .kept .1 .1 .0 ∙ c .before .before .before .before .before .before .before .before .before .before .before .loop .inv .2,
-    c .before .before .put-record .ensures ∙ pass-next _ _ _ _ _ (c .before .before .before .before .before .before .before .before .before .before .before .loop .inv .3) (omega arith) _ _ (c .before .before .before .before .before .record-at .ensures) (c .before .before .before .shown .ensures ∙ shown-is _ _ _ _ _ (c .before .before .before .before .before .before .before .before .hidden .ensures .0)))
+loop-again c = (
+  omega arith,
+  markable (c .before .before .before .before .before .before .before .before .before .before .before .loop .inv .1) (c .before .before .before .before .before .before .before .before .hidden .kept .1 .1 .0) (c .before .before .before .before .before .before .before .before .hidden .ensures .1),
+  c .before .before .before .before .before .before .before .before .hidden .kept .1 .1 .0 ∙ c .before .before .before .before .before .before .before .before .before .before .before .loop .inv .2,
+  c .before .before .put-record .ensures ∙ pass-next _ _ _ _ _ (c .before .before .before .before .before .before .before .before .before .before .before .loop .inv .3) (omega arith) _ _ (c .before .before .before .before .before .record-at .ensures) (c .before .before .before .shown .ensures ∙ shown-is _ _ _ _ _ (c .before .before .before .before .before .before .before .before .hidden .ensures .0)),
+)
 
 same-length : tie.Need-same-length Inv-loop μ-loop
 same-length c = c .before .loop .inv .2

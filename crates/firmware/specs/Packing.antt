@@ -1,0 +1,43 @@
+-- How number, record and values are packed into a result: number 0 and the values where a call is done; the refusal's
+-- number and record, and values 0, where it is refused.
+use Prim.Native.Nat.{ℕ}
+use Rattle.model.specs.Records.{at}
+use Rattle.model.specs.Refusals.{Answer, done, number, refused}
+use Rattle.model.specs.Verdicts.{labelOf}
+use Rattle.model.specs.declared.Counts.{Counts}
+use Rattle.model.specs.declared.Verdict.{Verdict}
+use Rattle.model.specs.declared.Verdict.the-variants.{Exposed, Hinted, Sealed}
+
+-- a result that is done, with its six values
+unfoldable pub values : ℕ → ℕ → ℕ → ℕ → ℕ → ℕ → HubResult
+values v0 v1 v2 v3 v4 v5 = record { number = 0; at = 0; v0 = v0; v1 = v1; v2 = v2; v3 = v3; v4 = v4; v5 = v5 }
+
+-- a refusal
+unfoldable pub refusalOf : ℕ → ℕ → HubResult
+refusalOf n r = record { number = n; at = r; v0 = 0; v1 = 0; v2 = 0; v3 = 0; v4 = 0; v5 = 0 }
+
+unfoldable pub packed : {A : Type 0} → (A → HubResult) → Answer A → HubResult
+packed f (done x) = f x
+packed f (refused n r) = refusalOf n r
+
+-- nothing but that it was done
+unfoldable pub bare : Unit {0} → HubResult
+bare u = values 0 0 0 0 0 0
+
+-- one number: the record count, a container's label, the count of ones
+unfoldable pub single : ℕ → HubResult
+single n = values n 0 0 0 0 0
+
+-- ins, outs, opens
+unfoldable pub counts : Counts → HubResult
+counts c = values (c .ins) (c .outs) (c .opens) 0 0 0
+
+-- exposed 1, hinted 2, sealed 3
+unfoldable pub verdictCode : Verdict → ℕ
+verdictCode (Exposed k) = 1
+verdictCode (Hinted k) = 2
+verdictCode Sealed = 3
+
+-- the verdict's code and its label, 0 if sealed
+unfoldable pub verdicts : Verdict → HubResult
+verdicts v = values (verdictCode v) (labelOf v) 0 0 0 0
