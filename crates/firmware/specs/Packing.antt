@@ -1,5 +1,6 @@
 -- How number, record and values are packed into a result: number 0 and the values where a call is done; the refusal's
 -- number and record, and values 0, where it is refused.
+use Rattle.firmware.specs.declared.HubResult.{HubResult}
 use Prim.Native.Nat.{ℕ}
 use Rattle.model.specs.Records.{at}
 use Rattle.model.specs.Refusals.{Answer, done, number, refused}

@@ -61,15 +61,39 @@ fn performed(p: Performed) -> HubResult
     }
 }
 
+fn validated(v: Validated) -> HubResult
+    ensures { λ r. ⌜ r ≡ packed single (validatedAs v) ⌝ }
+{
+    match v {
+        Validated::Done(n) => done(n, 0, 0),
+        Validated::Refused(r) => refused(r),
+    }
+}
+
+fn contained(c: Contained) -> HubResult
+    ensures { λ r. ⌜ r ≡ packed single (containedAs c) ⌝ }
+{
+    match c {
+        Contained::Done(label) => done(label as u16, 0, 0),
+        Contained::Refused(r) => refused(r),
+    }
+}
+
+fn ran(x: Ran) -> HubResult
+    ensures { λ r. ⌜ r ≡ packed counts (ranAs x) ⌝ }
+{
+    match x {
+        Ran::Done(c) => done(c.ins, c.outs, c.opens),
+        Ran::Refused(r) => refused(r),
+    }
+}
+
 // Validates an itinerary; v0 is the number of records.
 #[no_mangle]
 pub extern "C" fn hub_validate(it: &[u8]) -> HubResult
     ensures { λ r. ⌜ r ≡ packed single (validateAnswer (now (it .entry))) ⌝ }
 {
-    match itinerary::validate(it) {
-        Validated::Done(n) => done(n, 0, 0),
-        Validated::Refused(r) => refused(r),
-    }
+    validated(itinerary::validate(it))
 }
 
 // The container of a record; v0 is its label.
@@ -77,10 +101,7 @@ pub extern "C" fn hub_validate(it: &[u8]) -> HubResult
 pub extern "C" fn hub_container(it: &[u8], number: u16) -> HubResult
     ensures { λ r. ⌜ r ≡ packed single (containerAnswer (now (it .entry)) number) ⌝ }
 {
-    match itinerary::container(it, number) {
-        Contained::Done(label) => done(label as u16, 0, 0),
-        Contained::Refused(r) => refused(r),
-    }
+    contained(itinerary::container(it, number))
 }
 
 // Writes the observer's sheet.
@@ -108,8 +129,5 @@ pub extern "C" fn hub_run(it: &mut [u8], script: &[u8], answers: &mut [u8]) -> H
         × (now (it .exit) ≡ runAfter (now (it .entry)) (now (script .entry)) (now (answers .entry)))
         × (now (answers .exit) ≡ runAnswers (now (it .entry)) (now (script .entry)) (now (answers .entry))) ⌝ }
 {
-    match calculus::run(it, script, answers) {
-        Ran::Done(c) => done(c.ins, c.outs, c.opens),
-        Ran::Refused(r) => refused(r),
-    }
+    ran(calculus::run(it, script, answers))
 }

@@ -1,0 +1,29 @@
+-- The call's contract, packed. Assumes nothing.
+use mathlib.Core.Path.{_≡_, refl, sym, ap, _∙_}
+use Rattle.firmware.specs.Packing.{packed, values, refusalOf, bare, single, counts}
+use borrow.Author.Needs.{needs}
+use Rattle.firmware.proofs.hub_sheet.Statement.{statement}
+use Rattle.firmware.proofs.hub_sheet.Tie as tie
+use Rattle.firmware.proofs.hub_sheet.Reads as reads
+use Rattle.firmware.proofs.hub_sheet.Lts as lts
+use Rattle.firmware.proofs.performed.Reads as performed-reads
+use Rattle.observer.proofs.sheet.Reads as sheet-reads
+
+-- src/lib.rt:113:15
+sheet-requires : tie.Need-sheet-requires
+sheet-requires c κs = search needs
+
+-- src/lib.rt:113:5
+performed-requires : tie.Need-performed-requires
+performed-requires c κs = search needs
+
+-- src/lib.rt:108:1
+same-length : tie.Need-same-length
+same-length c = search needs
+
+-- src/lib.rt:108:1
+returns : tie.Need-returns
+returns c = (c .performed .ensures ∙ ap (packed bare) (c .before .before .before .sheet .ensures .0), c .before .before .before .sheet .ensures .1)
+
+pub hub-sheet-spec : {M : Type 1} → statement M
+hub-sheet-spec = tie.close (tie.spec sheet-requires performed-requires same-length returns)

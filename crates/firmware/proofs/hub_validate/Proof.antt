@@ -1,0 +1,25 @@
+-- The call's contract, packed. Assumes nothing.
+use mathlib.Core.Path.{_≡_, refl, sym, ap, _∙_}
+use Rattle.firmware.specs.Packing.{packed, values, refusalOf, bare, single, counts}
+use borrow.Author.Needs.{needs}
+use Rattle.firmware.proofs.hub_validate.Statement.{statement}
+use Rattle.firmware.proofs.hub_validate.Tie as tie
+use Rattle.firmware.proofs.hub_validate.Reads as reads
+use Rattle.firmware.proofs.hub_validate.Lts as lts
+use Rattle.firmware.proofs.validated.Reads as validated-reads
+use Rattle.itinerary.proofs.validate.Reads as validate-reads
+
+-- src/lib.rt:96:15
+validate-requires : tie.Need-validate-requires
+validate-requires c κs = search needs
+
+-- src/lib.rt:96:5
+validated-requires : tie.Need-validated-requires
+validated-requires c κs = search needs
+
+-- src/lib.rt:92:1
+returns : tie.Need-returns
+returns c = c .validated .ensures ∙ ap (packed single) (c .before .validate .ensures)
+
+pub hub-validate-spec : {M : Type 1} → statement M
+hub-validate-spec = tie.close (tie.spec validate-requires validated-requires returns)

@@ -1,0 +1,42 @@
+-- By the answer's case. Assumes nothing.
+use mathlib.Core.Path.{_≡_, refl, sym, ap, _∙_}
+use Rattle.firmware.specs.Packing.{packed, values, refusalOf, bare, single, counts}
+use Rattle.model.specs.Numbers.{performedAs, validatedAs, containedAs, madeAs, judgedAs, ranAs, screenedAs, refusal}
+use borrow.Author.Needs.{needs}
+use Rattle.firmware.proofs.validated.Statement.{statement}
+use Rattle.firmware.proofs.validated.Tie as tie
+use Rattle.firmware.proofs.validated.Reads as reads
+use Rattle.firmware.proofs.validated.Lts as lts
+use Rattle.firmware.proofs.done.Reads as done-reads
+use Rattle.firmware.proofs.refused.Reads as refused-reads
+
+-- src/lib.rt:68:25
+enum-known-v : tie.Need-enum-known-v
+enum-known-v c = search needs
+
+-- src/lib.rt:68:31
+done-requires : tie.Need-done-requires
+done-requires c κs = search needs
+
+-- src/lib.rt:69:28
+enum-known-v-2 : tie.Need-enum-known-v-2
+enum-known-v-2 c = search needs
+
+-- src/lib.rt:69:34
+refused-requires : tie.Need-refused-requires
+refused-requires c κs = search needs
+
+-- src/lib.rt:64:1
+returns : tie.Need-returns
+unfolding packed validatedAs single
+returns c = c .done .ensures ∙ sym (ap (λ y. packed single (validatedAs y)) (c .before .before .v .given .1))
+
+-- src/lib.rt:64:1
+returns-2 : tie.Need-returns-2
+unfolding packed validatedAs refusal
+returns-2 c = c .refused .ensures ∙ sym (ap (λ y. packed single (validatedAs y)) (c .before .before .v2 .given .1))
+
+pub validated-spec : {M : Type 1} → statement M
+validated-spec =
+    tie.close
+    (tie.spec enum-known-v done-requires enum-known-v-2 refused-requires returns returns-2)
