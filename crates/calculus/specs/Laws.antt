@@ -1,5 +1,5 @@
 -- Laws of the decided step: that its one pass is the step of the definitions.
-use Prim.Native.Nat.{_%_, _≤_, suc, zero, ℕ}
+use Prim.Native.Nat.{_%_, _+_, _≤_, suc, zero, ℕ}
 use borrow.Author.Tests.{eq-eqb, ltb-false, ne-eqb}
 use lib.Dec.{eqb, ltb}
 use lib.ListN.{length}
@@ -13,6 +13,7 @@ use native.Mathlib.Omega.{arith}
 use Rattle.model.specs.Analysis.{free}
 use Rattle.model.specs.Calls.{metCheck, stepAnswer, stepping}
 use Rattle.model.specs.Climbing.{ambients}
+use Rattle.model.specs.Finite.{digit}
 use Rattle.model.specs.Laws.Bytes.{at-whole, valid-wf}
 use Rattle.model.specs.Laws.Done.{Done, cap-pos, done-other, in-live, open-beside, out-live, outcome-done, partner-pos}
 use Rattle.model.specs.Laws.WellFormed.{WellFormed, dissolve-parent-stays, parent-not-self, place-parent-other}
@@ -20,8 +21,9 @@ use Rattle.model.specs.Records.{Capability, at, cap-in, cap-open, cap-out, capa
 use Rattle.model.specs.Refusals.{andThen, answer, done, pass, refused}
 use Rattle.model.specs.Steps.{Outcome, answerOf, decide, dissolve, dissolved, fit, met, move, outcome, outcomeBy, place, placed, ready, rewritten, stands, stepBytes, to, unmet}
 use Rattle.model.specs.Validity.{validity}
+use Rattle.model.specs.declared.Counts.{Counts}
 use Rattle.model.specs.declared.Rec.{Rec}
-use Rattle.calculus.specs.Moves.{applied, capabilityBy, capabilityOf, decisionBy, fitBy, moveBy, remade, standsBy}
+use Rattle.calculus.specs.Moves.{applied, capabilityBy, capabilityOf, counted, decisionBy, fitBy, moveBy, remade, standsBy}
 use Rattle.calculus.specs.declared.Decision.{Decision}
 use Rattle.calculus.specs.declared.Decision.the-variants.{Do, Refused}
 use Rattle.calculus.specs.declared.Move.{Move}
@@ -267,3 +269,14 @@ module _ (s : List ℕ) (c b n : ℕ) (v : validity s ≡ pass) (e : n ≡ answe
       go : (o : Outcome) → n ≡ answerOf o → refused n 0 ≡ answer (metCheck o) (tt {0})
       go (unmet k) w = ap (λ x. refused x 0) w
       go (met k) w = absurd (z w)
+
+-- a record remade, from the three records on the way
+pub remade-is : (m : Move) (i : ℕ) (r x y z : Rec) → x ≡ placed (m .mover) (m .dest) i r → y ≡ dissolved (m .opened) (m .home) i x → z ≡ dissolved (m .actor) (m .home) i y → z ≡ remade m i r
+unfolding remade
+remade-is m i r x y z ex ey ez = ez ∙ ap (dissolved (m .actor) (m .home) i) (ey ∙ ap (dissolved (m .opened) (m .home) i) ex)
+
+-- counts, from the three digits
+pub counted-is : (c : Counts) (kind number x y z : ℕ) → x ≡ digit (eqb number 0 && eqb 2 kind) → y ≡ digit (eqb number 0 && eqb 3 kind) → z ≡ digit (eqb number 0 && eqb 4 kind) →
+    _≡_ {A = Counts} (record { ins = c .ins + x; outs = c .outs + y; opens = c .opens + z }) (counted c kind number)
+unfolding counted
+counted-is c kind number x y z ex ey ez = λ i. record { ins = c .ins + ex i; outs = c .outs + ey i; opens = c .opens + ez i }

@@ -1,11 +1,10 @@
 -- What the inner contracts cite: the number of a reading, and climbs that stop at records known to reach the environment.
 use Prim.Native.Nat.{_%_, _<_, _≤_, ℕ}
 use lib.ListN.{getD, length}
-use mathlib.Core.Bool.{Bool, _&&_, false, true}
+use mathlib.Core.Bool.{Bool, _&&_, true}
 use mathlib.Core.List.{List}
 use mathlib.Core.Path.{_≡_}
-use Rattle.model.specs.Climbing.{reaching, viewFrom}
-use Rattle.model.specs.Laws.Forest.{Depth}
+use Rattle.model.specs.Climbing.{reaches, reaching, viewFrom}
 use Rattle.model.specs.Records.{count, parentOf, records}
 use Rattle.model.specs.Validity.{goneRight, kindRight, spareRight}
 use Rattle.model.specs.declared.Reading.{Reading}
@@ -29,17 +28,15 @@ pub record Parented (s : List ℕ) : Type 0 where
 
 -- every record with a mark reaches the environment
 pub record Known (s known : List ℕ) : Type 0 where
-  pub reach : (j : ℕ) → getD known j 0 ≡ 1 → (d : ℕ) × Depth (parentOf (records s)) j d
+  pub reach : (j : ℕ) → getD known j 0 ≡ 1 → reaches (records s) j ≡ true
 
--- whole records whose parents are within the count, as i is, with a mark for each
-pub record Climbable (s known : List ℕ) (i : ℕ) : Type 0 where
-  pub whole : length s % 8 ≡ 0
-  pub parents : (j : ℕ) → parentOf (records s) j ≤ count s
+-- an itinerary past refusals 1 to 5, with a mark for each record
+pub record Climbable (s known : List ℕ) : Type 0 where
+  pub parented : Parented s
   pub room : count s < length known
-  pub inside : i ≤ count s
   pub marks : Known s known
 
--- what a climb of at most left times from i tells: that i reaches the environment, or that so many climbs don't
-pub record Found (s : List ℕ) (left i : ℕ) (b : Bool) : Type 0 where
-  pub found : b ≡ true → (d : ℕ) × Depth (parentOf (records s)) i d
-  pub lost : b ≡ false → viewFrom reaching (records s) left i ≡ false
+-- number i is within the count, and as many climbs as are left decide whether it reaches the environment
+pub record Enough (s : List ℕ) (left i : ℕ) : Type 0 where
+  pub inside : i ≤ count s
+  pub decides : viewFrom reaching (records s) left i ≡ reaches (records s) i

@@ -4,7 +4,7 @@ use borrow.Author.Tests.{eq-eqb, leb-true, ne-eqb}
 use lib.Dec.{eqb, leb}
 use lib.ListN.{getD, length, length-replicate, replicate, set}
 use lib.Seq.{getD-set-other}
-use mathlib.Core.Bool.{Bool, _&&_, false, not, true, true≢false}
+use mathlib.Core.Bool.{Bool, _&&_, false, not, true}
 use mathlib.Core.List.{List}
 use mathlib.Core.Logic.{_≢_}
 use mathlib.Core.Path.{_∙_, _≡_, ap, refl, sym}
@@ -13,10 +13,10 @@ use native.Mathlib.Omega.{arith}
 use Rattle.model.specs.Calls.{validateAnswer}
 use Rattle.model.specs.Climbing.{View, reaches, reaching, view, viewFrom}
 use Rattle.model.specs.Laws.Bytes.{at-whole, length-records, passed, size-le, size-whole, sound-record}
-use Rattle.model.specs.Laws.Checks.{answer-done, each-pass}
-use Rattle.model.specs.Laws.Forest.{Depth, depth-le, root, under-of}
+use Rattle.model.specs.Laws.Checks.{answer-done, each-pass, need-make}
+use Rattle.model.specs.Laws.Forest.{Depth, above, depth-le, under-of}
 use Rattle.model.specs.Laws.Updates.{at-over, at-root}
-use Rattle.model.specs.Laws.Views.{depth-reaches, from-lost, from-on, from-top}
+use Rattle.model.specs.Laws.Views.{depth-reaches, from-lost, from-on, from-top, reaches-depth}
 use Rattle.model.specs.Laws.WellFormed.{and-left}
 use Rattle.model.specs.Numbers.{readingBy, readingOf, refusal, validatedAs}
 use Rattle.model.specs.Records.{at, byte, byteOf, count, decode, isAmbient, parentOf, records}
@@ -27,7 +27,7 @@ use Rattle.model.specs.declared.Rec.{Rec}
 use Rattle.model.specs.declared.Refusal.{Refusal}
 use Rattle.model.specs.declared.Validated.{Validated}
 use Rattle.model.specs.declared.Validated.the-variants.{Done as Good, Refused as Bad}
-use Rattle.itinerary.specs.Known.{Climbable, Found, Known, Parented, formRight}
+use Rattle.itinerary.specs.Known.{Climbable, Enough, Known, Parented, formRight}
 
 pub parent-right : (s : List ℕ) (p b : ℕ) → p ≢ 0 → b ≡ byteOf s p 0 → (leb p (length s / 8) && not (eqb b 0)) ≡ parentRight s p
 unfolding parentRight count
@@ -246,49 +246,69 @@ pub ambient-not : (r : Rec) → r .kind ≢ 1 → isAmbient r ≡ false
 unfolding isAmbient
 ambient-not r h = ne-eqb _ _ h
 
--- climbs that stop at what is known
-module _ (s : List ℕ) (left i : ℕ) where
-  pub found-root : i ≡ 0 → Found s left i true
-  found-root e = record { found = λ _. (0, rw e root); lost = λ h. absurd (true≢false h) }
+-- reaching the environment, past refusals 1 to 5
+same-truth : (a b : Bool) → (a ≡ true → b ≡ true) → (b ≡ true → a ≡ true) → a ≡ b
+same-truth true b f g = sym (f refl)
+same-truth false true f g = g refl
+same-truth false false f g = refl
 
-  pub found-known : {known : List ℕ} → Known s known → getD known i 0 ≡ 1 → Found s left i true
-  found-known k e = record { found = λ _. k .reach i e; lost = λ h. absurd (true≢false h) }
+module _ {s : List ℕ} (p : Parented s) where
+  depth-found : (i : ℕ) → i ≤ count s → {d : ℕ} → Depth (parentOf (records s)) i d → reaches (records s) i ≡ true
+  unfolding reaches
+  depth-found i l d =
+      let m : length (records s) ≡ count s = length-records s in
+      depth-reaches (records s) (length (records s)) d (depth-le (length (records s)) (λ j. rw m (p .parents j)) (omega arith) d)
 
-  pub found-none : i ≢ 0 → left ≡ 0 → Found s left i false
-  found-none n e = record { found = λ h. absurd (true≢false (sym h)); lost = λ _. climb-lost reaching s left i n e }
+  found-depth : (i : ℕ) → reaches (records s) i ≡ true → (d : ℕ) × Depth (parentOf (records s)) i d
+  unfolding reaches
+  found-depth i h = let r = reaches-depth (records s) (length (records s)) i h in (r .0, r .2)
 
-  pub found-on : length s % 8 ≡ 0 → i ≢ 0 → left ≢ 0 → (r : Rec) → r ≡ decode s i → {b : Bool} → Found s (left - 1) (r .parent) b → Found s left i b
-  found-on m n z r e w = record {
-    found = λ h. let d = w .found h in (suc (d .0), under-of n (ap (λ x. x .parent) (at-whole s m i ∙ sym e)) (d .1));
-    lost = λ h. climb-on reaching s left i m n z r e ∙ w .lost h;
-  }
+  -- r is record i
+  module _ (i : ℕ) (l : i ≤ count s) (z : i ≢ 0) (r : Rec) (e : r ≡ decode s i) where
+    up : parentOf (records s) i ≡ r .parent
+    up = ap (λ x. x .parent) (at-whole s (p .whole) i ∙ sym e)
 
-pub known-more : (s known : List ℕ) (i : ℕ) → Known s known → (d : ℕ) × Depth (parentOf (records s)) i d → Known s (set known i 1)
-known-more s known i k w = record { reach = λ j e. go j e (ℕ-discrete j i) }
+    parent-inside : r .parent ≤ count s
+    parent-inside = rw up at (p .parents i)
+
+    pub reach-above : reaches (records s) (r .parent) ≡ reaches (records s) i
+    reach-above = same-truth _ _
+        (λ h. depth-found i l (under-of z up (found-depth (r .parent) h .1)))
+        (λ h. let a = above (found-depth i h .1) z in depth-found (r .parent) parent-inside (rw up at (a .2)))
+
+    pub enough-above : (left : ℕ) → left ≢ 0 → Enough s left i → Enough s (left - 1) (r .parent)
+    enough-above left n w = record { inside = parent-inside; decides = sym (climb-on reaching s left i (p .whole) z n r e) ∙ w .decides ∙ sym reach-above }
+
+pub reach-root : (s : List ℕ) (i : ℕ) → i ≡ 0 → reaches (records s) i ≡ true
+unfolding reaches
+reach-root s i e = climb-top reaching s (length (records s)) i e
+
+pub reach-none : {s : List ℕ} {left i : ℕ} → Enough s left i → i ≢ 0 → left ≡ 0 → reaches (records s) i ≡ false
+reach-none {s} {left} {i} w z e = sym (w .decides) ∙ climb-lost reaching s left i z e
+
+-- as many climbs as there are records decide
+pub enough-all : (s : List ℕ) (n i : ℕ) → n ≡ count s → i ≤ n → Enough s n i
+unfolding reaches
+enough-all s n i e l = record { inside = omega arith; decides = ap (λ k. viewFrom reaching (records s) k i) (e ∙ sym (length-records s)) }
+
+pub known-more : {s known : List ℕ} (i : ℕ) → Known s known → reaches (records s) i ≡ true → Known s (set known i 1)
+known-more {s} {known} i k h = record { reach = λ j e. go j e (ℕ-discrete j i) }
   where
-    go : (j : ℕ) → getD (set known i 1) j 0 ≡ 1 → Dec (j ≡ i) → (d : ℕ) × Depth (parentOf (records s)) j d
-    go j e (yes q) = rw q w
+    go : (j : ℕ) → getD (set known i 1) j 0 ≡ 1 → Dec (j ≡ i) → reaches (records s) j ≡ true
+    go j e (yes q) = rw q h
     go j e (no q) = k .reach j (sym (getD-set-other known i j 1 0 q) ∙ e)
 
--- from another record, with other marks
-pub climbable : {s known known′ : List ℕ} {k : ℕ} (i : ℕ) → Climbable s known k → length known′ ≡ length known → Known s known′ → i ≤ count s → Climbable s known′ i
-climbable i w e m l = record { whole = w .whole; parents = w .parents; room = rw e (w .room); inside = l; marks = m }
+-- with other marks
+pub climbable : {s known known′ : List ℕ} → Climbable s known → length known′ ≡ length known → Known s known′ → Climbable s known′
+climbable w e m = record { parented = w .parented; room = rw e (w .room); marks = m }
 
-pub climbable-on : {s known : List ℕ} {i : ℕ} → Climbable s known i → (r : Rec) → r ≡ decode s i → Climbable s known (r .parent)
-climbable-on {s} {known} {i} w r e = climbable (r .parent) w refl (w .marks) (rw (e, ← at-whole s (w .whole) i) (w .parents i))
+pub climb-pass : (its : List Rec) (i : ℕ) {b : Bool} → b ≡ reaches its i → b ≡ true → climbCheck its i ≡ pass
+unfolding climbCheck
+climb-pass its i e t = need-make 6 i (sym e ∙ t)
 
-pub found-pass : {s known : List ℕ} {k : ℕ} (n i : ℕ) {b : Bool} → Climbable s known k → n ≡ count s → i ≤ n → Found s n i b → b ≡ true → climbCheck (records s) i ≡ pass
-unfolding climbCheck need reaches
-found-pass {s} n i w e l f t =
-    let d = f .found t in
-    let m : length (records s) ≡ count s = length-records s in
-    rw (depth-reaches (records s) (length (records s)) (d .1) (depth-le (length (records s)) (λ j. rw m (w .parents j)) (omega arith) (d .1)))
-
-pub found-refuse : (s : List ℕ) (n i : ℕ) {b : Bool} → n ≡ count s → Found s n i b → b ≡ false → climbCheck (records s) i ≡ refuse 6 i
-unfolding climbCheck need reaches
-found-refuse s n i e f t =
-    let m : length (records s) ≡ n = length-records s ∙ sym e in
-    rw (m, f .lost t)
+pub climb-refuse : (its : List Rec) (i : ℕ) {b : Bool} → b ≡ reaches its i → b ≡ false → climbCheck its i ≡ refuse 6 i
+unfolding climbCheck
+climb-refuse its i e t = need-refuse 6 i (sym e ∙ t)
 
 -- a climb with no marks
 abbrev pub zeros : ℕ → List ℕ
@@ -299,13 +319,11 @@ getD-zero zero j = refl
 getD-zero (suc k) zero = refl
 getD-zero (suc k) (suc j) = getD-zero k j
 
-pub unmarked : {s : List ℕ} → Parented s → Climbable s (zeros 1025) 0
+pub unmarked : {s : List ℕ} → Parented s → Climbable s (zeros 1025)
 unfolding count
 unmarked {s} w = record {
-  whole = w .whole;
-  parents = w .parents;
+  parented = w;
   room = rw length-replicate (omega (arith, w .few));
-  inside = omega arith;
   marks = record { reach = λ j e. absurd (omega (arith, e, getD-zero 1025 j)) };
 }
 

@@ -8,13 +8,13 @@ ghost use mathlib.Core.Path.{_≡_};
 ghost use Prim.Native.Nat.{_*_, _<_, _≤_, _%_};
 ghost use lib.ListN.{length};
 ghost use Rattle.model.specs.Records.{byteOf, count, decode, nested, records, word};
-ghost use Rattle.model.specs.Climbing.{container, nesting, standing, viewFrom};
+ghost use Rattle.model.specs.Climbing.{container, nesting, reaches, standing, viewFrom};
 ghost use Rattle.model.specs.Refusals.{answer, eachOf};
 ghost use Rattle.model.specs.Validity.{climbCheck, goneRight, labelRight, nameRight, parentRight, recordCheck, spareRight};
 ghost use Rattle.model.specs.Calls.{containerAnswer, validateAnswer};
 ghost use Rattle.model.specs.Numbers.{containedAs, readingOf, validatedAs};
 ghost use Rattle.itinerary.specs.Written.{withRecord};
-ghost use Rattle.itinerary.specs.Known.{Climbable, Found, Known, Parented, formRight, readingNumber};
+ghost use Rattle.itinerary.specs.Known.{Climbable, Enough, Known, Parented, formRight, readingNumber};
 
 // Byte k of record i, 0 where there is none; inner.
 pub fn byte_of(it: &[u8], i: u16, k: usize) -> u8
@@ -163,8 +163,8 @@ fn first_unread(it: &[u8], n: u16) -> Validated
 // Whether climbing from i reaches the environment; inner. A record with a mark in known does, and a climb that
 // succeeds marks the records it passed, so that no record is climbed from twice.
 fn climb(it: &[u8], known: &mut [u8], i: u16, left: usize) -> bool
-    requires { ⌜ Climbable (now it) (now known) i ⌝ }
-    ensures { λ r. ⌜ (Found (now (it .entry)) left i r) × (Known (now (it .entry)) (now (known .exit))) ⌝ }
+    requires { ⌜ (Climbable (now it) (now known)) × (Enough (now it) left i) ⌝ }
+    ensures { λ r. ⌜ (r ≡ reaches (records (now (it .entry))) i) × (Known (now (it .entry)) (now (known .exit))) ⌝ }
 {
     if i == 0 {
         return true;
@@ -184,10 +184,11 @@ fn climb(it: &[u8], known: &mut [u8], i: u16, left: usize) -> bool
     false
 }
 
-// Refusal 6 of the n records; inner.
+// Refusal 6 of the n records, with marks to climb by; inner.
 fn first_lost(it: &[u8], known: &mut [u8], n: u16) -> Validated
-    requires { ⌜ (Climbable (now it) (now known) 0) × (n ≡ count (now it)) ⌝ }
-    ensures { λ r. ⌜ validatedAs r ≡ answer (eachOf (climbCheck (records (now (it .entry)))) 1 n) n ⌝ }
+    requires { ⌜ (Climbable (now it) (now known)) × (n ≡ count (now it)) ⌝ }
+    ensures { λ r. ⌜ (validatedAs r ≡ answer (eachOf (climbCheck (records (now (it .entry)))) 1 n) n)
+        × (Known (now (it .entry)) (now (known .exit))) ⌝ }
 {
     let mut i: u16 = 0;
     while i < n {

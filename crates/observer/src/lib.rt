@@ -76,10 +76,11 @@ fn shown(hidden: bool, r: Rec) -> Rec
     r
 }
 
-// Writes the sheet, record by record; inner.
+// Writes the sheet, record by record, with marks to climb by; inner.
 fn write(it: &[u8], table: &[u8], marks: &mut [u8], sheet: &mut [u8])
     requires { ⌜ (Markable (now it) (now table) (now marks)) × (length (now sheet) ≡ length (now it)) ⌝ }
-    ensures { λ _. ⌜ now (sheet .exit) ≡ sheetOf (now (it .entry)) (now (table .entry)) ⌝ }
+    ensures { λ _. ⌜ (now (sheet .exit) ≡ sheetOf (now (it .entry)) (now (table .entry)))
+        × (Marked (now (it .entry)) (now (table .entry)) (now (marks .exit))) ⌝ }
 {
     let n = (it.len() / 8) as u16;
     let mut i: u16 = 0;

@@ -55,7 +55,8 @@ fn clear_bits(table: &[u8], first: usize, step: usize) -> bool
 pub fn table_right(table: &[u8]) -> bool
     ensures { λ r. ⌜ r ≡ tableRight (now (table .entry)) ⌝ }
 {
-    if table.len() != 1544 {
+    let size = table.len();
+    if size != 1544 {
         return false;
     }
     if !clear_bits(table, 0, 128) {

@@ -1,6 +1,6 @@
 -- `calculus::counted` meets its contract.
 use borrow.Author.Needs.{needs}
-use Rattle.calculus.specs.Moves.{counted}
+use Rattle.calculus.specs.Laws.{counted-is}
 use Rattle.calculus.proofs.counted.Statement.{statement}
 use Rattle.calculus.proofs.counted.Tie as tie
 
@@ -23,8 +23,7 @@ add-t18 : tie.Need-add-t18
 add-t18 c = search needs
 
 returns : tie.Need-returns
-unfolding counted
-returns c = cc
+returns c = counted-is _ _ _ _ _ _ (c .before .before .before .before .before .digit .ensures .0) (c .before .before .before .digit2 .ensures .0) (c .before .digit3 .ensures .0)
 
 pub counted-spec : {M : Type 1} → statement M
 counted-spec =

@@ -1,6 +1,6 @@
 -- `calculus::remade` meets its contract.
 use borrow.Author.Needs.{needs}
-use Rattle.calculus.specs.Moves.{remade}
+use Rattle.calculus.specs.Laws.{remade-is}
 use Rattle.calculus.proofs.remade.Statement.{statement}
 use Rattle.calculus.proofs.remade.Tie as tie
 
@@ -14,8 +14,7 @@ dissolved-requires-2 : tie.Need-dissolved-requires-2
 dissolved-requires-2 c κs = search needs
 
 returns : tie.Need-returns
-unfolding remade
-returns c = cc
+returns c = remade-is _ _ _ _ _ _ (c .before .before .placed .ensures) (c .before .dissolved .ensures) (c .dissolved2 .ensures)
 
 pub remade-spec : {M : Type 1} → statement M
 remade-spec = tie.close (tie.spec placed-requires dissolved-requires dissolved-requires-2 returns)

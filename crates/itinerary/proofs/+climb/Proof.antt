@@ -4,9 +4,9 @@ use borrow.Author.Needs.{needs}
 use borrow.Fn.Kinds.{In}
 use borrow.Fn.PlainCycle.{Measures, and, falls, is}
 use lib.ListN.{length-set}
-use mathlib.Core.Path.{refl}
+use mathlib.Core.Path.{_∙_, sym}
 use native.Mathlib.Omega.{arith}
-use Rattle.itinerary.specs.Laws.{climbable-on, found-known, found-none, found-on, found-root, known-more}
+use Rattle.itinerary.specs.Laws.{enough-above, known-more, reach-above, reach-none, reach-root}
 use Rattle.itinerary.proofs.+climb.{statement}
 use Rattle.itinerary.proofs.+climb.Lts-climb as climb-lts
 use Rattle.itinerary.proofs.+climb.Tie.{close}
@@ -29,7 +29,7 @@ climb-returns : (t : ℕ) → climb-lts.Need-returns (
   climb-below t,
   climb.Post,
 ) (climb-at t) climb.Post
-climb-returns t c = (found-root _ _ _ (c .if1 .taken), c .before .before .before .pre .1 .marks)
+climb-returns t c = (sym (reach-root _ _ (c .if1 .taken)), c .before .before .before .pre .1 .0 .marks)
 
 climb-slice-read-if2 : (t : ℕ) → climb-lts.Need-slice-read-if2 (
   record-at-reads.Asked,
@@ -37,7 +37,7 @@ climb-slice-read-if2 : (t : ℕ) → climb-lts.Need-slice-read-if2 (
   climb-below t,
   climb.Post,
 ) (climb-at t) climb.Post
-climb-slice-read-if2 t c = omega (arith, c .before .before .before .before .pre .1 .room, c .before .before .before .before .pre .1 .inside)
+climb-slice-read-if2 t c = omega (arith, c .before .before .before .before .pre .1 .0 .room, c .before .before .before .before .pre .1 .1 .inside)
 
 climb-returns-2 : (t : ℕ) → climb-lts.Need-returns-2 (
   record-at-reads.Asked,
@@ -45,7 +45,7 @@ climb-returns-2 : (t : ℕ) → climb-lts.Need-returns-2 (
   climb-below t,
   climb.Post,
 ) (climb-at t) climb.Post
-climb-returns-2 t c = (found-known _ _ _ (c .before .before .before .before .before .pre .1 .marks) (c .if2 .taken), c .before .before .before .before .before .pre .1 .marks)
+climb-returns-2 t c = (sym (c .before .before .before .before .before .pre .1 .0 .marks .reach _ (c .if2 .taken)), c .before .before .before .before .before .pre .1 .0 .marks)
 
 climb-returns-3 : (t : ℕ) → climb-lts.Need-returns-3 (
   record-at-reads.Asked,
@@ -53,7 +53,7 @@ climb-returns-3 : (t : ℕ) → climb-lts.Need-returns-3 (
   climb-below t,
   climb.Post,
 ) (climb-at t) climb.Post
-climb-returns-3 t c = (found-none _ _ _ (c .before .before .before .if1 .left) (c .if3 .taken), c .before .before .before .before .before .before .pre .1 .marks)
+climb-returns-3 t c = (sym (reach-none (c .before .before .before .before .before .before .pre .1 .1) (c .before .before .before .if1 .left) (c .if3 .taken)), c .before .before .before .before .before .before .pre .1 .0 .marks)
 
 climb-record-at-requires : (t : ℕ) → climb-lts.Need-record-at-requires (
   record-at-reads.Asked,
@@ -77,7 +77,7 @@ climb-climb-requires : (t : ℕ) → climb-lts.Need-climb-requires (
   climb-below t,
   climb.Post,
 ) (climb-at t) climb.Post
-climb-climb-requires t c κs = (omega (arith, c .before .before .before .before .before .before .before .before .pre .0), climbable-on (c .before .before .before .before .before .before .before .before .pre .1) _ (c .before .record-at .ensures))
+climb-climb-requires t c κs = (omega (arith, c .before .before .before .before .before .before .before .before .pre .0), (c .before .before .before .before .before .before .before .before .pre .1 .0, enough-above (c .before .before .before .before .before .before .before .before .pre .1 .0 .parented) _ (c .before .before .before .before .before .before .before .before .pre .1 .1 .inside) (c .before .before .before .before .before .if1 .left) _ (c .before .record-at .ensures) _ (c .before .before .if3 .left) (c .before .before .before .before .before .before .before .before .pre .1 .1)))
 
 climb-slice-write-known : (t : ℕ) → climb-lts.Need-slice-write-known (
   record-at-reads.Asked,
@@ -85,7 +85,7 @@ climb-slice-write-known : (t : ℕ) → climb-lts.Need-slice-write-known (
   climb-below t,
   climb.Post,
 ) (climb-at t) climb.Post
-climb-slice-write-known t c = omega (arith, c .before .before .before .before .before .before .before .before .before .before .before .before .pre .1 .room, c .before .before .before .before .before .before .before .before .before .before .before .before .pre .1 .inside, c .before .before .before .climb .kept .1 .0)
+climb-slice-write-known t c = omega (arith, c .before .before .before .before .before .before .before .before .before .before .before .before .pre .1 .0 .room, c .before .before .before .before .before .before .before .before .before .before .before .before .pre .1 .1 .inside, c .before .before .before .climb .kept .1 .0)
 
 climb-same-length : (t : ℕ) → climb-lts.Need-same-length (
   record-at-reads.Asked,
@@ -101,9 +101,9 @@ climb-returns-4 : (t : ℕ) → climb-lts.Need-returns-4 (
   climb-below t,
   climb.Post,
 ) (climb-at t) climb.Post
-climb-returns-4 t c = let f = c .before .before .before .climb .ensures in
-    let g = found-on _ _ _ (c .before .before .before .before .before .before .before .before .before .before .before .before .pre .1 .whole) (c .before .before .before .before .before .before .before .before .before .if1 .left) (c .before .before .before .before .before .before .if3 .left) _ (c .before .before .before .before .before .record-at .ensures) (rw (c .if4 .taken) at (f .0)) in
-    (g, known-more _ _ _ (f .1) (g .found refl))
+climb-returns-4 t c = let e = reach-above (c .before .before .before .before .before .before .before .before .before .before .before .before .pre .1 .0 .parented) _ (c .before .before .before .before .before .before .before .before .before .before .before .before .pre .1 .1 .inside) (c .before .before .before .before .before .before .before .before .before .if1 .left) _ (c .before .before .before .before .before .record-at .ensures) in
+    let h = sym (c .if4 .taken) ∙ c .before .before .before .climb .ensures .0 ∙ e in
+    (h, known-more _ (c .before .before .before .climb .ensures .1) (sym h))
 
 climb-same-length-2 : (t : ℕ) → climb-lts.Need-same-length-2 (
   record-at-reads.Asked,
@@ -119,8 +119,8 @@ climb-returns-5 : (t : ℕ) → climb-lts.Need-returns-5 (
   climb-below t,
   climb.Post,
 ) (climb-at t) climb.Post
-climb-returns-5 t c = let f = c .before .before .before .climb .ensures in
-    (found-on _ _ _ (c .before .before .before .before .before .before .before .before .before .before .before .before .pre .1 .whole) (c .before .before .before .before .before .before .before .before .before .if1 .left) (c .before .before .before .before .before .before .if3 .left) _ (c .before .before .before .before .before .record-at .ensures) (rw (c .if4 .left) at (f .0)), f .1)
+climb-returns-5 t c = let e = reach-above (c .before .before .before .before .before .before .before .before .before .before .before .before .pre .1 .0 .parented) _ (c .before .before .before .before .before .before .before .before .before .before .before .before .pre .1 .1 .inside) (c .before .before .before .before .before .before .before .before .before .if1 .left) _ (c .before .before .before .before .before .record-at .ensures) in
+    (sym (c .if4 .left) ∙ c .before .before .before .climb .ensures .0 ∙ e, c .before .before .before .climb .ensures .1)
 
 pub +climb-spec : {M : Type 1} → statement M
 +climb-spec = close μ-climb λ t. climb-lts.spec (

@@ -11,7 +11,7 @@ first-lost-requires : tie.Need-first-lost-requires
 first-lost-requires c κs = (unmarked (c .before .before .pre .0), c .before .before .pre .1)
 
 returns : tie.Need-returns
-returns c = search needs
+returns c = c .before .first-lost .ensures .0
 
 pub climbs-spec : {M : Type 1} → statement M
 climbs-spec = tie.close (tie.spec slice-aggregate-first-lost first-lost-requires returns)

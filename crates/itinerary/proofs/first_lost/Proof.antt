@@ -6,7 +6,7 @@ use lib.ListN.{length}
 use mathlib.Core.Path.{_∙_, _≡_, refl}
 use native.Mathlib.Omega.{arith}
 use Rattle.itinerary.specs.Known.{Climbable}
-use Rattle.itinerary.specs.Laws.{Rest, climbable, done-answer, found-pass, found-refuse, refuse-answer, rest-end, rest-next, rest-refuse, rest-start}
+use Rattle.itinerary.specs.Laws.{Rest, climb-pass, climb-refuse, climbable, done-answer, enough-all, refuse-answer, rest-end, rest-next, rest-refuse, rest-start}
 use Rattle.model.specs.Numbers.{validatedAs}
 use Rattle.model.specs.Records.{records}
 use Rattle.model.specs.Refusals.{eachOf}
@@ -15,7 +15,7 @@ use Rattle.itinerary.proofs.first_lost.Statement.{statement}
 use Rattle.itinerary.proofs.first_lost.Tie as tie
 
 abbrev Inv-loop : tie.InvT-loop
-Inv-loop it known₀ n i₀ known i = (Climbable it known 0) × (length known ≡ length known₀) × (i ≤ n) × (eachOf (climbCheck (records it)) 1 n ≡ Rest (climbCheck (records it)) n i)
+Inv-loop it known₀ n i₀ known i = (Climbable it known) × (length known ≡ length known₀) × (i ≤ n) × (eachOf (climbCheck (records it)) 1 n ≡ Rest (climbCheck (records it)) n i)
 
 abbrev μ-loop : tie.MeasureT-loop
 μ-loop it known₀ n i₀ known i = n - i
@@ -27,24 +27,24 @@ add-lowest : tie.Need-add-lowest Inv-loop μ-loop
 add-lowest c = search needs
 
 climb-requires : tie.Need-climb-requires Inv-loop μ-loop
-climb-requires c κs = climbable _ (c .before .before .loop .inv .0) refl (c .before .before .loop .inv .0 .marks) (omega (arith, c .before .before .before .before .before .pre .1))
+climb-requires c κs = (c .before .before .loop .inv .0, enough-all _ _ _ (c .before .before .before .before .before .pre .1) (omega arith))
 
 same-length : tie.Need-same-length Inv-loop μ-loop
 same-length c = c .before .before .before .climb .kept .1 .0 ∙ c .before .before .before .before .before .before .loop .inv .1
 
 returns : tie.Need-returns Inv-loop μ-loop
 unfolding validatedAs
-returns c = refuse-answer _ _ (c .before .before .before .before .before .before .loop .inv .3 ∙ rest-refuse _ _ _ _ _ (c .before .before .before .before .before .loop-test .taken) (found-refuse _ _ _ (c .before .before .before .before .before .before .before .before .before .pre .1) (c .before .before .before .climb .ensures .0) (not-true _ (c .if1 .taken))))
+returns c = (refuse-answer _ _ (c .before .before .before .before .before .before .loop .inv .3 ∙ rest-refuse _ _ _ _ _ (c .before .before .before .before .before .loop-test .taken) (climb-refuse _ _ (c .before .before .before .climb .ensures .0) (not-true _ (c .if1 .taken)))), c .before .before .before .climb .ensures .1)
 
 loop-less : tie.Need-loop-less Inv-loop μ-loop
 loop-less c = search needs
 
 loop-again : tie.Need-loop-again Inv-loop μ-loop
 loop-again c = (
-  climbable 0 (c .before .before .before .before .before .before .loop .inv .0) (c .before .before .before .climb .kept .1 .0) (c .before .before .before .climb .ensures .1) (c .before .before .before .before .before .before .loop .inv .0 .inside),
+  climbable (c .before .before .before .before .before .before .loop .inv .0) (c .before .before .before .climb .kept .1 .0) (c .before .before .before .climb .ensures .1),
   c .before .before .before .climb .kept .1 .0 ∙ c .before .before .before .before .before .before .loop .inv .1,
   omega arith,
-  c .before .before .before .before .before .before .loop .inv .3 ∙ rest-next _ _ _ (c .before .before .before .before .before .loop-test .taken) (found-pass _ _ (c .before .before .before .before .before .before .loop .inv .0) (c .before .before .before .before .before .before .before .before .before .pre .1) (omega arith) (c .before .before .before .climb .ensures .0) (not-false _ (c .if1 .left))),
+  c .before .before .before .before .before .before .loop .inv .3 ∙ rest-next _ _ _ (c .before .before .before .before .before .loop-test .taken) (climb-pass _ _ (c .before .before .before .climb .ensures .0) (not-false _ (c .if1 .left))),
 )
 
 same-length-2 : tie.Need-same-length-2 Inv-loop μ-loop
@@ -52,7 +52,7 @@ same-length-2 c = c .before .loop .inv .1
 
 returns-2 : tie.Need-returns-2 Inv-loop μ-loop
 unfolding validatedAs
-returns-2 c = done-answer _ (c .before .loop .inv .3 ∙ rest-end _ _ _ (c .loop-test .left)) refl
+returns-2 c = (done-answer _ (c .before .loop .inv .3 ∙ rest-end _ _ _ (c .loop-test .left)) refl, c .before .loop .inv .0 .marks)
 
 pub first-lost-spec : {M : Type 1} → statement M
 first-lost-spec =

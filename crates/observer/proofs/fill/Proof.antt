@@ -14,7 +14,7 @@ same-length : tie.Need-same-length
 same-length c = search needs
 
 returns : tie.Need-returns
-returns c = search needs
+returns c = c .before .before .before .write .ensures .0
 
 pub fill-spec : {M : Type 1} → statement M
 fill-spec = tie.close (tie.spec slice-aggregate-write write-requires same-length returns)

@@ -76,7 +76,7 @@ same-length-2 c = pass-length _ _ _ _ _ (c .before .loop .inv .3) (omega arith) 
 
 returns : tie.Need-returns Inv-loop μ-loop
 unfolding sheetOf sheet count
-returns c = pass-end _ _ _ _ _ (c .before .loop .inv .3) (omega arith) (omega (arith, c .before .before .before .before .before .before .pre .1, valid-whole _ (c .before .before .before .before .before .before .pre .0 .valid)))
+returns c = (pass-end _ _ _ _ _ (c .before .loop .inv .3) (omega arith) (omega (arith, c .before .before .before .before .before .before .pre .1, valid-whole _ (c .before .before .before .before .before .before .pre .0 .valid))), c .before .loop .inv .1 .marked)
 
 pub write-spec : {M : Type 1} → statement M
 write-spec =

@@ -1,0 +1,2 @@
+-- The checks of each call in order.
+pub mod Laws

@@ -1,0 +1,86 @@
+-- The bits of a list of words as one set of numbers, and what `xs[i] |= v` does to it.
+use Prim.Native.Nat.{_%_, _*_, _+_, _/_, _<_, ℕ}
+use lib.Bits.{bitAnd, bitOr}
+use lib.ListN.{getD, length, set}
+use lib.Seq.{getD-set-other, getD-set-same}
+use mathlib.Core.Bool.{Bool, _||_, true}
+use mathlib.Core.List.{List}
+use mathlib.Core.Path.{_∙_, _≡_, ap, ap₂, sym}
+use native.Mathlib.Decide.{ℕ-discrete}
+use native.Mathlib.Omega.{arith}
+use Rattle.model.specs.Laws.Bit.{and-bit, or-bit}
+use Rattle.model.specs.Laws.Checks.{and-make, or-cases, or-right}
+use Rattle.model.specs.Laws.WellFormed.{and-left, and-right}
+use Rattle.model.specs.Tables.{bitAt, testBit}
+use Rattle.tables.specs.Grow.{Grown, Inside, Set}
+use Rattle.tables.specs.Bit.{bit-no, bit-yes, or-left}
+
+-- the words of 64 bits as a set
+abbrev pub Bits : List ℕ → Set
+Bits w = bitAt 64 w
+
+-- `xs[i] |= v`
+abbrev pub orAt : List ℕ → ℕ → ℕ → List ℕ
+orAt xs i v = set xs i (bitOr (getD xs i 0) v)
+
+-- word i of the set has v's bits
+unfoldable pub Word : ℕ → ℕ → ℕ → Set → Type 0
+Word m i v u = (j : ℕ) → j / m ≡ i → testBit v (j % m) ≡ true → u j ≡ true
+
+-- the bits after `xs[i] |= v`, by the word that a bit lies in
+here : (m : ℕ) (xs : List ℕ) (i v j : ℕ) → i < length xs → j / m ≡ i →
+    testBit (getD (orAt xs i v) (j / m) 0) (j % m) ≡ (testBit (getD xs (j / m) 0) (j % m) || testBit v (j % m))
+here m xs i v j h e =
+    ap (λ (x : ℕ). testBit (getD (orAt xs i v) x 0) (j % m)) e
+    ∙ ap (λ (x : ℕ). testBit x (j % m)) (getD-set-same xs i (bitOr (getD xs i 0) v) 0 h)
+    ∙ or-bit (getD xs i 0) v (j % m)
+    ∙ ap (λ (x : ℕ). testBit (getD xs x 0) (j % m) || testBit v (j % m)) (sym e)
+
+pub or-word : (m : ℕ) (xs : List ℕ) (i v : ℕ) → i < length xs → Grown (Word m i v) (Word m i v) (bitAt m xs) (bitAt m (orAt xs i v))
+unfolding bitAt Word
+or-word m xs i v h = record {
+  keeps = λ j t. keep j (ℕ-discrete (j / m) i) t;
+  inside = λ u s c j t. ins u s c j (ℕ-discrete (j / m) i) t;
+  done = λ b j e t. b j (here m xs i v j h e ∙ or-right (testBit (getD xs (j / m) 0) (j % m)) (testBit v (j % m)) t);
+}
+  where
+    keep : (j : ℕ) → Dec (j / m ≡ i) → bitAt m xs j ≡ true → bitAt m (orAt xs i v) j ≡ true
+    keep j (yes e) t = here m xs i v j h e ∙ or-left (testBit (getD xs (j / m) 0) (j % m)) (testBit v (j % m)) t
+    keep j (no d) t = ap (λ (x : ℕ). testBit x (j % m)) (getD-set-other xs i (j / m) (bitOr (getD xs i 0) v) 0 d) ∙ t
+
+    ins : (u : Set) → Inside (bitAt m xs) u → Word m i v u → (j : ℕ) → Dec (j / m ≡ i) → bitAt m (orAt xs i v) j ≡ true → u j ≡ true
+    ins u s c j (yes e) t = or-cases (testBit (getD xs (j / m) 0) (j % m)) (testBit v (j % m)) (sym (here m xs i v j h e) ∙ t) (s j) (c j e)
+    ins u s c j (no d) t = s j (sym (ap (λ (x : ℕ). testBit x (j % m)) (getD-set-other xs i (j / m) (bitOr (getD xs i 0) v) 0 d)) ∙ t)
+
+-- and the word has v's bits then
+pub or-has : (m : ℕ) (xs : List ℕ) (i v : ℕ) → i < length xs → Word m i v (bitAt m (orAt xs i v))
+unfolding bitAt Word
+or-has m xs i v h j e t = here m xs i v j h e ∙ or-right (testBit (getD xs (j / m) 0) (j % m)) (testBit v (j % m)) t
+
+-- a bit of the set lies in its word
+pub at-word : (w : List ℕ) (i k j : ℕ) → k < 64 → j ≡ 64 * i + k → Bits w j ≡ testBit (getD w i 0) k
+unfolding bitAt
+at-word w i k j h e =
+    let q : j / 64 ≡ i = omega arith in
+    let r : j % 64 ≡ k = omega arith in
+    ap₂ (λ (x y : ℕ). testBit (getD w x 0) y) q r
+
+-- word i of a set, by the places in it
+pub word-make : (i v : ℕ) (u : Set) → ((x : ℕ) → testBit v x ≡ true → x < 64 → u (64 * i + x) ≡ true) → Word 64 i v u
+unfolding Word
+word-make i v u f j e t = let m : j ≡ 64 * i + j % 64 = omega arith in ap u m ∙ f (j % 64) t (omega arith)
+
+pub word-use : (i v : ℕ) (u : Set) → Word 64 i v u → (x : ℕ) → testBit v x ≡ true → x < 64 → u (64 * i + x) ≡ true
+unfolding Word
+word-use i v u f x t h = let r : (64 * i + x) % 64 ≡ x = omega arith in f (64 * i + x) (omega arith) (ap (testBit v) r ∙ t)
+
+-- the bits of an `&`
+module _ (r c x : ℕ) where
+  pub and-in : testBit r x ≡ true → testBit c x ≡ true → testBit (bitAnd r c) x ≡ true
+  and-in s t = and-bit r c x ∙ and-make s t
+
+  pub and-l : testBit (bitAnd r c) x ≡ true → testBit r x ≡ true
+  and-l t = and-left (testBit r x) (testBit c x) (sym (and-bit r c x) ∙ t)
+
+  pub and-r : testBit (bitAnd r c) x ≡ true → testBit c x ≡ true
+  and-r t = and-right (testBit r x) (testBit c x) (sym (and-bit r c x) ∙ t)

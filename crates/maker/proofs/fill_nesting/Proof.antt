@@ -1,0 +1,147 @@
+use Prim.Native.Nat.{_*_, _+_, _-_, _/_, _≤_, ℕ}
+use lib.ListN.{length}
+use mathlib.Core.List.{List}
+use mathlib.Core.Logic.{⊎-elim}
+use mathlib.Core.Path.{_∙_, _≡_, ap, refl, subst, sym}
+use native.Mathlib.Omega.{arith}
+use Rattle.maker.specs.Facts.{Filled}
+use Rattle.partners.specs.Facts.{nestCell, standing}
+use Rattle.maker.specs.Laws.{filled-no, filled-none, filled-yes}
+use Rattle.partners.specs.Standing.{stands, stands-not}
+use Rattle.model.specs.Records.{count, records}
+use Rattle.model.specs.Tables.{bits}
+use Rattle.itinerary.specs.Laws.{valid-few, valid-whole}
+use Rattle.maker.proofs.fill_nesting.Statement.{statement}
+use Rattle.maker.proofs.fill_nesting.Tie as tie
+
+abbrev Inv-loop : tie.InvT-loop
+Inv-loop table₀ it n i₀ table i = (length table ≡ length table₀) × (i ≤ length it / 8) × Filled (standing (records it)) (nestCell (records it)) i (bits table₀) (bits table)
+
+abbrev μ-loop : tie.MeasureT-loop
+μ-loop table₀ it n i₀ table i = length it / 8 - i
+
+cast-n : tie.Need-cast-n Inv-loop μ-loop
+cast-n c = let s = c .before .before in let h = valid-few (s .args .it .now) (s .pre .1) in omega arith
+
+loop-holds : tie.Need-loop-holds Inv-loop μ-loop
+loop-holds c = let s = c .before .before in (refl, omega arith, filled-none (standing (records (s .args .it .now))) (nestCell (records (s .args .it .now))))
+
+add-record-at : tie.Need-add-record-at Inv-loop μ-loop
+add-record-at c = let s = c .before .before .before .before in let h = valid-few (s .args .it .now) (s .pre .1) in omega arith
+
+record-at-requires : tie.Need-record-at-requires Inv-loop μ-loop
+record-at-requires c κs = tt
+
+add-container-of : tie.Need-add-container-of Inv-loop μ-loop
+add-container-of c = let s = c .before .before .before .before .before .before .before in let h = valid-few (s .args .it .now) (s .pre .1) in omega arith
+
+container-of-requires : tie.Need-container-of-requires Inv-loop μ-loop
+container-of-requires c κs = valid-whole (c .before .before .before .before .before .before .before .args .it .now) (c .before .before .before .before .before .before .before .pre .1)
+
+cast-set-bit : tie.Need-cast-set-bit Inv-loop μ-loop
+unfolding count
+cast-set-bit c =
+    let s = c .before .before .before .before .before .before .before .before .before in
+    let l = c .before .before .before .before .before .before .loop in
+    let r = c .before .before .before .before .record-at in
+    let h = valid-few (s .args .it .now) (s .pre .1) in
+    let e : l .i + 1 ≤ count (s .args .it .now) = omega arith in
+    let q = c .before .container-of in let k = stands (s .args .it .now) (s .pre .1) (l .i) e (r .result) (r .ensures) (q .result) (q .ensures) (c .before .before .if1 .taken) in let x = k .label in let y = k .above in let m = l .inv .0 ∙ s .pre .0 in omega arith
+
+mul-set-bit : tie.Need-mul-set-bit Inv-loop μ-loop
+unfolding count
+mul-set-bit c =
+    let s = c .before .before .before .before .before .before .before .before .before in
+    let l = c .before .before .before .before .before .before .loop in
+    let r = c .before .before .before .before .record-at in
+    let h = valid-few (s .args .it .now) (s .pre .1) in
+    let e : l .i + 1 ≤ count (s .args .it .now) = omega arith in
+    let q = c .before .container-of in let k = stands (s .args .it .now) (s .pre .1) (l .i) e (r .result) (r .ensures) (q .result) (q .ensures) (c .before .before .if1 .taken) in let x = k .label in let y = k .above in let m = l .inv .0 ∙ s .pre .0 in omega arith
+
+cast-set-bit-2 : tie.Need-cast-set-bit-2 Inv-loop μ-loop
+unfolding count
+cast-set-bit-2 c =
+    let s = c .before .before .before .before .before .before .before .before .before .before in
+    let l = c .before .before .before .before .before .before .before .loop in
+    let r = c .before .before .before .before .before .record-at in
+    let h = valid-few (s .args .it .now) (s .pre .1) in
+    let e : l .i + 1 ≤ count (s .args .it .now) = omega arith in
+    let q = c .before .before .container-of in let k = stands (s .args .it .now) (s .pre .1) (l .i) e (r .result) (r .ensures) (q .result) (q .ensures) (c .before .before .before .if1 .taken) in let x = k .label in let y = k .above in let m = l .inv .0 ∙ s .pre .0 in omega arith
+
+add-set-bit : tie.Need-add-set-bit Inv-loop μ-loop
+unfolding count
+add-set-bit c =
+    let s = c .before .before .before .before .before .before .before .before .before .before in
+    let l = c .before .before .before .before .before .before .before .loop in
+    let r = c .before .before .before .before .before .record-at in
+    let h = valid-few (s .args .it .now) (s .pre .1) in
+    let e : l .i + 1 ≤ count (s .args .it .now) = omega arith in
+    let q = c .before .before .container-of in let k = stands (s .args .it .now) (s .pre .1) (l .i) e (r .result) (r .ensures) (q .result) (q .ensures) (c .before .before .before .if1 .taken) in let x = k .label in let y = k .above in let m = l .inv .0 ∙ s .pre .0 in omega arith
+
+set-bit-requires : tie.Need-set-bit-requires Inv-loop μ-loop
+unfolding count
+set-bit-requires c κs =
+    let s = c .before .before .before .before .before .before .before .before .before .before in
+    let l = c .before .before .before .before .before .before .before .loop in
+    let r = c .before .before .before .before .before .record-at in
+    let h = valid-few (s .args .it .now) (s .pre .1) in
+    let e : l .i + 1 ≤ count (s .args .it .now) = omega arith in
+    let q = c .before .before .container-of in let k = stands (s .args .it .now) (s .pre .1) (l .i) e (r .result) (r .ensures) (q .result) (q .ensures) (c .before .before .before .if1 .taken) in let x = k .label in let y = k .above in let m = l .inv .0 ∙ s .pre .0 in omega arith
+
+add-i : tie.Need-add-i Inv-loop μ-loop
+add-i c = let s = c .before .before .before .before .before .before .before in let h = valid-few (s .args .it .now) (s .pre .1) in omega arith
+
+loop-less : tie.Need-loop-less Inv-loop μ-loop
+loop-less c = omega arith
+
+loop-again : tie.Need-loop-again Inv-loop μ-loop
+unfolding count
+loop-again c =
+    let s = c .before .before .before .before .before .before .before in
+    let it = s .args .it .now in
+    let l = c .before .before .before .before .loop in
+    let r = c .before .before .record-at in
+    let h = valid-few it (s .pre .1) in
+    let e : l .i + 1 ≤ count (s .args .it .now) = omega arith in
+    let m = l .inv .0 ∙ s .pre .0 in
+    ⊎-elim
+    (λ v. let k = stands it (s .pre .1) (l .i) e (r .result) (r .ensures) (v .1 .result) (v .1 .ensures) (v .0 .taken) in let x = k .label in let y = k .above in
+      (ap length (v .7) ∙ v .4 .kept .0 ∙ l .inv .0, omega arith,
+        filled-yes (standing (records it)) (nestCell (records it)) (l .i) (l .table) _ (128 * v .1 .result + r .result .label) (k .test) (k .cell) (omega arith) (v .7 ∙ v .4 .ensures) (l .inv .2)))
+    (λ v. (ap length (v .1) ∙ l .inv .0, omega arith,
+      subst (λ (y : List ℕ). Filled (standing (records it)) (nestCell (records it)) (l .i + 1) (bits (s .args .table .now)) (bits y)) (sym (v .1))
+      (filled-no (standing (records it)) (nestCell (records it)) (l .i) (stands-not it (s .pre .1) (l .i) e (r .result) (r .ensures) (v .0 .left)) (l .inv .2))))
+    (c .if1 .came)
+
+same-length : tie.Need-same-length Inv-loop μ-loop
+same-length c = c .before .loop .inv .0
+
+returns : tie.Need-returns Inv-loop μ-loop
+unfolding count
+returns c =
+    let s = c .before .before .before .before in
+    let e : c .before .loop .i ≡ count (s .args .it .now) = omega arith in
+    subst (λ (k : ℕ). Filled (standing (records (s .args .it .now))) (nestCell (records (s .args .it .now))) k (bits (s .args .table .now)) (bits (c .before .loop .table))) e (c .before .loop .inv .2)
+
+pub fill-nesting-spec : {M : Type 1} → statement M
+fill-nesting-spec =
+    tie.close
+    (tie.spec
+    Inv-loop
+    μ-loop
+    cast-n
+    loop-holds
+    add-record-at
+    record-at-requires
+    add-container-of
+    container-of-requires
+    cast-set-bit
+    mul-set-bit
+    cast-set-bit-2
+    add-set-bit
+    set-bit-requires
+    add-i
+    loop-less
+    loop-again
+    same-length
+    returns)

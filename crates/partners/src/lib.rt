@@ -1,0 +1,44 @@
+// Folding the capability records of an itinerary into words of partners.
+use model::Rec;
+ghost use mathlib.Core.Path.{_≡_};
+ghost use Prim.Native.Nat.{ℕ};
+ghost use lib.ListN.{length, getD};
+ghost use mathlib.Core.Bool.{true};
+ghost use Rattle.model.specs.Laws.WellFormed.{shape};
+ghost use Rattle.model.specs.Records.{count, records};
+ghost use Rattle.model.specs.Refusals.{pass};
+ghost use Rattle.model.specs.Validity.{validity};
+ghost use Rattle.partners.specs.Fold.{Added, Folds};
+ghost use Rattle.partners.specs.Laws.{names};
+
+// Adds the labels that bear the name which a capability targets to the word of its kind and label. (inner)
+fn aim(partners: &mut [u64], w: &[u64], r: Rec)
+    requires { ⌜ length (now partners) ≡ 192 ⌝ }
+    requires { ⌜ length (now w) ≡ 193 ⌝ }
+    requires { ⌜ shape r ≡ true ⌝ }
+    ensures { λ _. ⌜ Added (names (now (w .entry))) r (now (partners .entry)) (now (partners .exit)) ⌝ }
+{
+    if r.kind < 2 {
+        return;
+    }
+    let bearers = closure::column(w, 128, 1, r.name as usize);
+    let slot = 64 * ((r.kind as usize) - 2) + ((r.label as usize) - 64);
+    closure::add(partners, slot, bearers);
+}
+
+// The partners of all capabilities, by kind and label; w is the table in words. (inner)
+pub fn fold(partners: &mut [u64], w: &[u64], it: &[u8])
+    requires { ⌜ length (now partners) ≡ 192 ⌝ }
+    requires { ⌜ ((i : ℕ) → getD (now partners) i 0 ≡ 0) ⌝ }
+    requires { ⌜ length (now w) ≡ 193 ⌝ }
+    requires { ⌜ validity (now it) ≡ pass ⌝ }
+    ensures { λ _. ⌜ Folds (records (now (it .entry))) (names (now (w .entry))) (count (now (it .entry))) (now (partners .exit)) ⌝ }
+{
+    let n = (it.len() / 8) as u16;
+    let mut i: u16 = 0;
+    while i < n {
+        let r = itinerary::record_at(it, i + 1);
+        aim(partners, w, r);
+        i += 1;
+    }
+}

@@ -1,0 +1,64 @@
+use Rattle.model.specs.Tables.{bits}
+use Rattle.model.specs.Verdicts.{marked}
+use Rattle.reach.specs.Laws.{exposed-is, hinted-is, sealed-is}
+use borrow.Author.Needs.{needs}
+use Rattle.reach.proofs.judge.Statement.{statement}
+use Rattle.reach.proofs.judge.Tie as tie
+use Rattle.reach.proofs.judge.Reads as reads
+use Rattle.reach.proofs.judge.Lts as lts
+use Rattle.reach.proofs.lowest_high.Reads as lowest-high-reads
+use Rattle.reach.proofs.lowest_suspect.Reads as lowest-suspect-reads
+use Rattle.reach.proofs.reach.Reads as reach-reads
+
+reach-requires : tie.Need-reach-requires
+reach-requires c κs = search needs
+
+lowest-high-requires : tie.Need-lowest-high-requires
+lowest-high-requires c κs = search needs
+
+enum-known-k : tie.Need-enum-known-k
+enum-known-k c = search needs
+
+returns : tie.Need-returns
+returns c =
+    let a = c .before .before .before .before .before .before .before .args in
+    exposed-is (bits (a .table .now)) (a .policy .now) _ (c .before .before .before .before .reach .ensures) _ _ (c .before .before .before .lowest-high .ensures) (c .before .k .given .1)
+
+enum-told : tie.Need-enum-told
+enum-told c = search needs
+
+lowest-suspect-requires : tie.Need-lowest-suspect-requires
+lowest-suspect-requires c κs = search needs
+
+enum-known-k-2 : tie.Need-enum-known-k-2
+enum-known-k-2 c = search needs
+
+enum-told-2 : tie.Need-enum-told-2
+enum-told-2 c = search needs
+
+returns-2 : tie.Need-returns-2
+returns-2 c =
+    let a = c .before .before .before .before .before .before .before .before .before .before .args in
+    let s = c .before .before .before .before in
+    hinted-is (bits (a .table .now)) (a .policy .now) _ (s .before .before .before .reach .ensures) _ _ _ (s .before .before .lowest-high .ensures) (s .enum-told .given .1) (c .before .before .before .lowest-suspect .ensures) (c .before .k2 .given .1)
+
+returns-3 : tie.Need-returns-3
+returns-3 c =
+    let a = c .before .before .before .before .before .before .before .before .before .args in
+    let s = c .before .before .before in
+    sealed-is (bits (a .table .now)) (a .policy .now) _ (s .before .before .before .reach .ensures) _ _ (s .before .before .lowest-high .ensures) (s .enum-told .given .1) (c .before .before .lowest-suspect .ensures) (c .enum-told2 .given .1)
+
+pub judge-spec : {M : Type 1} → statement M
+judge-spec =
+    tie.close
+    (tie.spec
+    reach-requires
+    lowest-high-requires
+    enum-known-k
+    returns
+    enum-told
+    lowest-suspect-requires
+    enum-known-k-2
+    enum-told-2
+    returns-2
+    returns-3)

@@ -1,0 +1,13 @@
+use Rattle.reach.specs.Laws.{origin-is}
+use borrow.Author.Needs.{needs}
+use Rattle.reach.proofs.origin.Statement.{statement}
+use Rattle.reach.proofs.origin.Tie as tie
+
+array-write-r : tie.Need-array-write-r
+array-write-r c = search needs
+
+returns : tie.Need-returns
+returns c = origin-is
+
+pub origin-spec : {M : Type 1} → statement M
+origin-spec = tie.close (tie.spec array-write-r returns)

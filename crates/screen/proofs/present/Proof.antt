@@ -1,0 +1,23 @@
+-- By the test of the kind. Assumes nothing.
+use mathlib.Core.Path.{sym, ap}
+use mathlib.Core.Bool.{not}
+use native.Mathlib.Omega.{arith}
+use borrow.Author.Tests.{eq-eqb, ne-eqb}
+use Rattle.model.specs.Finite.{digit}
+use Rattle.screen.proofs.present.Statement.{statement}
+use Rattle.screen.proofs.present.Tie as tie
+use Rattle.screen.proofs.present.Reads as reads
+use Rattle.screen.proofs.present.Lts as lts
+
+-- src/lib.rt:16:1
+returns : tie.Need-returns
+unfolding digit
+returns c = (sym (ap (λ b. digit (not b)) (eq-eqb _ _ (c .if1 .taken))), omega arith)
+
+-- src/lib.rt:16:1
+returns-2 : tie.Need-returns-2
+unfolding digit
+returns-2 c = (sym (ap (λ b. digit (not b)) (ne-eqb _ _ (c .if1 .left))), omega arith)
+
+pub present-spec : {M : Type 1} → statement M
+present-spec = tie.close (tie.spec returns returns-2)

@@ -1,0 +1,157 @@
+//! The lettered examples of the scope document, through the safe calls.
+
+use crate::*;
+
+/// Kind, label, name, parent.
+type Fields = (u8, u8, u8, u16);
+
+const A: [Fields; 2] = [(1, 1, 0, 0), (1, 2, 1, 1)];
+const B: [Fields; 3] = [A[0], A[1], (3, 64, 0, 2)];
+
+fn bytes(records: &[Fields]) -> Vec<u8> {
+    let record = |&(kind, label, name, parent): &Fields| {
+        let [low, high] = parent.to_le_bytes();
+        [kind, label, name, 0, low, high, 0, 0]
+    };
+    records.iter().flat_map(record).collect()
+}
+
+/// Label 1 boundary, 2 high, every other low.
+fn usual() -> Vec<u8> {
+    let mut policy = vec![0; POLICY_LENGTH];
+    policy[1] = 2;
+    policy[2] = 1;
+    policy
+}
+
+fn parent(itinerary: &[u8], number: usize) -> u16 {
+    u16::from_le_bytes([itinerary[8 * number - 4], itinerary[8 * number - 3]])
+}
+
+/// Makes the table, has it checked, and gives bits, suspects and verdict.
+fn screened(records: &[Fields], policy: &[u8]) -> (u16, Vec<u8>, Verdict) {
+    let itinerary = bytes(records);
+    let mut table = vec![0xff; TABLE_LENGTH];
+    let ones = make(&itinerary, policy, &mut table).unwrap();
+    check(&itinerary, policy, &table).unwrap();
+    let judged = verdict(&itinerary, policy, &table).unwrap();
+    let suspects = (0..64u8).filter(|k| table[1536 + usize::from(k / 8)] >> (k % 8) & 1 == 1).collect();
+    let shown = screen(&mut itinerary.clone(), policy, &[], &mut []).unwrap();
+    assert_eq!((shown.ones, shown.verdict), (ones, judged));
+    (ones, suspects, judged)
+}
+
+fn refusal(number: u16, record: u16) -> Refusal {
+    Refusal { number, record }
+}
+
+#[test]
+fn example_a() {
+    assert_eq!(screened(&A, &usual()), (5, vec![2], Verdict::Sealed));
+    let itinerary = bytes(&A);
+    assert_eq!(validate(&itinerary), Ok(2));
+    let containers: Vec<_> = (0..4).map(|number| container(&itinerary, number).unwrap()).collect();
+    assert_eq!(containers, [0, 0, 1, 0]);
+}
+
+#[test]
+fn example_a_sheet_and_rows() {
+    let itinerary = bytes(&A);
+    let mut table = [0; TABLE_LENGTH];
+    make(&itinerary, &usual(), &mut table).unwrap();
+    let mut shown = [7; 16];
+    sheet(&itinerary, &table, &mut shown).unwrap();
+    assert_eq!(shown[..], bytes(&[A[0], (0, 0, 0, 0)]));
+    assert_eq!(sheet(&itinerary, &table, &mut [7; 8]), Err(refusal(14, 0)));
+    assert_eq!(row(&table, 1), &table[16..32]);
+    assert!(std::ptr::eq(row(&table, 63), &table[1008..1024]));
+    assert!(row(&table, 64).is_empty() && row(&table[1..], 1).is_empty() && row(&[], 0).is_empty());
+}
+
+#[test]
+fn example_b() {
+    assert_eq!(screened(&B, &usual()), (7, vec![2], Verdict::Exposed(2)));
+    let mut itinerary = bytes(&B);
+    assert_eq!(step(&mut itinerary, 3, 1), Ok(()));
+    assert_eq!(itinerary, bytes(&[A[0], (1, 2, 1, 0), (0, 0, 0, 0)]));
+}
+
+#[test]
+fn example_b_script() {
+    let script = [3, 0, 1, 0, 3, 0, 1, 0];
+    let counts = Counts { ins: 0, outs: 1, opens: 0 };
+    let (mut first, mut second, mut answers) = (bytes(&B), bytes(&B), [7; 2]);
+    let shown = screen(&mut first, &usual(), &script, &mut answers).unwrap();
+    assert_eq!(shown, Screen { verdict: Verdict::Exposed(2), ones: 7, counts, left: 2 });
+    assert_eq!(answers, [0, 10]);
+    answers = [7; 2];
+    assert_eq!(run(&mut second, &script, &mut answers), Ok(counts));
+    assert_eq!((answers, second), ([0, 10], first));
+    assert_eq!(run(&mut bytes(&B), &script, &mut [7]), Err(refusal(13, 0)));
+}
+
+#[test]
+fn example_c() {
+    let records = [A[0], A[1], (4, 64, 1, 1), (1, 3, 2, 3), (3, 65, 0, 4)];
+    assert_eq!(screened(&records, &usual()), (12, vec![1, 2, 3], Verdict::Hinted(1)));
+}
+
+#[test]
+fn example_d() {
+    let records = [A[0], A[1], (2, 64, 2, 2), (1, 3, 2, 1)];
+    assert_eq!(screened(&records, &usual()), (9, vec![2], Verdict::Sealed));
+    let mut itinerary = bytes(&records);
+    assert_eq!(step(&mut itinerary, 3, 4), Ok(()));
+    assert_eq!(parent(&itinerary, 2), 4);
+}
+
+#[test]
+fn example_e() {
+    let records = [(1, 1, 0, 0), (2, 64, 0, 1)];
+    assert_eq!(screened(&records, &[0; 64]), (4, vec![], Verdict::Sealed));
+    let mut itinerary = bytes(&records);
+    assert_eq!(step(&mut itinerary, 2, 1), Err(refusal(12, 0)));
+    assert_eq!(itinerary, bytes(&records));
+}
+
+#[test]
+fn example_f() {
+    assert_eq!(screened(&[], &usual()), (1, vec![2], Verdict::Sealed));
+    assert_eq!(validate(&[]), Ok(0));
+}
+
+#[test]
+fn example_g() {
+    assert_eq!(validate(&bytes(&[(1, 1, 0, 1)])), Err(refusal(6, 1)));
+    assert_eq!(validate(&bytes(&[(1, 1, 0, 2)])), Err(refusal(5, 1)));
+    assert_eq!(refusal(6, 1).to_string(), "refused 6 1: climbing doesn't reach 0");
+}
+
+#[test]
+fn example_h() {
+    let mut out = bytes(&[(1, 1, 0, 0), (3, 64, 0, 0)]);
+    assert_eq!(step(&mut out, 2, 1), Err(refusal(11, 0)));
+    let mut open = bytes(&[(1, 1, 0, 0), (4, 64, 0, 0)]);
+    assert_eq!(step(&mut open, 2, 1), Ok(()));
+    assert_eq!(open, [0; 16]);
+}
+
+#[test]
+fn example_j() {
+    assert_eq!(validate(&[0; 8192]), Ok(1024));
+    assert_eq!(validate(&[0; 8200]), Err(refusal(1, 0)));
+    assert_eq!(validate(&bytes(&[(1, 63, 0, 0)])), Ok(1));
+    assert_eq!(validate(&bytes(&[(1, 64, 0, 0)])), Err(refusal(3, 1)));
+}
+
+#[test]
+fn tables_and_policies_refused() {
+    let (itinerary, policy) = (bytes(&A), usual());
+    let mut table = [0; TABLE_LENGTH];
+    assert_eq!(check(&itinerary, &policy, &table), Err(refusal(9, 0)));
+    assert_eq!(check(&itinerary, &policy[1..], &table), Err(refusal(7, 0)));
+    assert_eq!(make(&itinerary, &policy, &mut table[1..]), Err(refusal(8, 0)));
+    table[0] = 1;
+    assert_eq!(verdict(&itinerary, &policy, &table), Err(refusal(8, 0)));
+    assert_eq!(sheet(&itinerary, &table, &mut [0; 16]), Err(refusal(8, 0)));
+}
