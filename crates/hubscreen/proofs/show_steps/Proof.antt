@@ -1,0 +1,43 @@
+-- The number of steps not yet shown falls. Assumes nothing.
+use Prim.Native.Nat.{_≤_, _-_}
+use native.Mathlib.Omega.{arith}
+use Rattle.hubscreen.proofs.show_steps.Statement.{statement}
+use Rattle.hubscreen.proofs.show_steps.Tie as tie
+use Rattle.hubscreen.proofs.show_steps.Reads as reads
+use Rattle.hubscreen.proofs.show_steps.Lts as lts
+use Rattle.hubscreen.proofs.show_step.Reads as show-step-reads
+
+abbrev Inv-loop : tie.InvT-loop
+Inv-loop script answers n k₀ k = k ≤ n
+
+abbrev μ-loop : tie.MeasureT-loop
+μ-loop script answers n k₀ k = n - k
+
+-- src/main.rt:119:5
+loop-holds : tie.Need-loop-holds Inv-loop μ-loop
+loop-holds c = omega arith
+
+-- src/main.rt:120:9
+show-step-requires : tie.Need-show-step-requires Inv-loop μ-loop
+show-step-requires c κs = tt
+
+-- src/main.rt:121:9
+add-k : tie.Need-add-k Inv-loop μ-loop
+add-k c = omega arith
+
+-- src/main.rt:119:5
+loop-less : tie.Need-loop-less Inv-loop μ-loop
+loop-less c = omega arith
+
+-- src/main.rt:119:5
+loop-again : tie.Need-loop-again Inv-loop μ-loop
+loop-again c = omega arith
+
+-- src/main.rt:116:1
+returns : tie.Need-returns Inv-loop μ-loop
+returns c = omega arith
+
+pub show-steps-spec : {M : Type 1} → statement M
+show-steps-spec =
+    tie.close
+    (tie.spec Inv-loop μ-loop loop-holds show-step-requires add-k loop-less loop-again returns)

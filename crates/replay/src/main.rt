@@ -1,0 +1,417 @@
+// Replays the stored cases of the independent simulator: every call, its answer, and every lent buffer after it.
+use model::Contained;
+use model::Judged;
+use model::Made;
+use model::Performed;
+use model::Ran;
+use model::Screened;
+use model::Validated;
+use model::Verdict;
+use replaying::Result;
+use replaying::Tally;
+
+// The lengths of the buffers, and the tally so far.
+struct State {
+    it: usize,
+    policy: usize,
+    table: usize,
+    script: usize,
+    answers: usize,
+    sheet: usize,
+    tally: Tally,
+}
+
+fn of_performed(p: Performed) -> Result {
+    match p {
+        Performed::Done => replaying::done(0, 0, 0, 0),
+        Performed::Refused(r) => replaying::refused(r.number, r.record),
+    }
+}
+
+fn of_validated(v: Validated) -> Result {
+    match v {
+        Validated::Done(n) => replaying::done(n, 0, 0, 0),
+        Validated::Refused(r) => replaying::refused(r.number, r.record),
+    }
+}
+
+fn of_contained(c: Contained) -> Result {
+    match c {
+        Contained::Done(label) => replaying::done(label as u16, 0, 0, 0),
+        Contained::Refused(r) => replaying::refused(r.number, r.record),
+    }
+}
+
+fn of_made(m: Made) -> Result {
+    match m {
+        Made::Done(n) => replaying::done(n, 0, 0, 0),
+        Made::Refused(r) => replaying::refused(r.number, r.record),
+    }
+}
+
+fn of_ran(r: Ran) -> Result {
+    match r {
+        Ran::Done(c) => replaying::done(c.ins, c.outs, c.opens, 0),
+        Ran::Refused(r) => replaying::refused(r.number, r.record),
+    }
+}
+
+// 1 exposed, 2 hinted, 3 sealed
+fn verdict_code(v: Verdict) -> u16 {
+    match v {
+        Verdict::Exposed(_) => 1,
+        Verdict::Hinted(_) => 2,
+        Verdict::Sealed => 3,
+    }
+}
+
+fn verdict_label(v: Verdict) -> u16 {
+    match v {
+        Verdict::Exposed(k) => k as u16,
+        Verdict::Hinted(k) => k as u16,
+        Verdict::Sealed => 0,
+    }
+}
+
+fn of_judged(j: Judged) -> Result {
+    match j {
+        Judged::Done(v) => replaying::done(verdict_code(v), verdict_label(v), 0, 0),
+        Judged::Refused(r) => replaying::refused(r.number, r.record),
+    }
+}
+
+fn both(code: u16, label: u16) -> u16 {
+    if 4 <= code {
+        return 0;
+    }
+    if 256 <= label {
+        return 0;
+    }
+    256 * code + label
+}
+
+fn of_screened(s: Screened) -> Result {
+    match s {
+        Screened::Refused(r) => replaying::refused(r.number, r.record),
+        Screened::Done(x) => {
+            let v = x.verdict;
+            let c = x.counts;
+            Result {
+                number: 0,
+                record: 0,
+                v0: both(verdict_code(v), verdict_label(v)),
+                v1: x.ones,
+                v2: c.ins,
+                v3: c.outs,
+                v4: c.opens,
+                v5: x.left,
+            }
+        }
+    }
+}
+
+fn label_of(x: u16) -> u8 {
+    if x < 256 { x as u8 } else { 255 }
+}
+
+// The row as offset and length: its bytes are those at the offset that the file gives.
+fn of_row(table: &[u8], x: u16, want: Result) -> Result {
+    let row = tables::row(table, label_of(x));
+    let at = replaying::wide(want.v0);
+    if table.len() < at {
+        return replaying::refused(1, 0);
+    }
+    let there = replaying::part(&table[at..], replaying::wide(want.v1));
+    if replaying::same(row, there) {
+        return replaying::done(want.v0, want.v1, 0, 0);
+    }
+    replaying::refused(1, 0)
+}
+
+// The calls on an itinerary.
+fn itinerary_call(
+    op: u8,
+    x: u16,
+    y: u16,
+    it: &mut [u8],
+    table: &[u8],
+    script: &[u8],
+    answers: &mut [u8],
+    sheet: &mut [u8],
+) -> Result {
+    if op == 16 {
+        return of_validated(itinerary::validate(it));
+    }
+    if op == 17 {
+        return of_contained(itinerary::container(it, x));
+    }
+    if op == 18 {
+        return of_performed(observer::sheet(it, table, sheet));
+    }
+    if op == 19 {
+        return of_performed(calculus::step(it, x, y));
+    }
+    of_ran(calculus::run(it, script, answers))
+}
+
+// The calls on a table.
+fn table_call(op: u8, x: u16, want: Result, it: &[u8], policy: &[u8], table: &mut [u8]) -> Result {
+    if op == 21 {
+        return of_performed(analysis::check(it, policy, table));
+    }
+    if op == 22 {
+        return of_made(analysis::make(it, policy, table));
+    }
+    if op == 23 {
+        return of_judged(analysis::verdict(it, policy, table));
+    }
+    of_row(table, x, want)
+}
+
+// Whether the buffers that a call may write have the bytes of their shadows.
+fn as_shadowed(
+    s: State,
+    it: &[u8],
+    it2: &[u8],
+    table: &[u8],
+    table2: &[u8],
+    answers: &[u8],
+    answers2: &[u8],
+    sheet: &[u8],
+    sheet2: &[u8],
+) -> bool {
+    let a = replaying::same(replaying::part(it, s.it), replaying::part(it2, s.it));
+    let b = replaying::same(replaying::part(table, s.table), replaying::part(table2, s.table));
+    let c = replaying::same(replaying::part(answers, s.answers), replaying::part(answers2, s.answers));
+    let d = replaying::same(replaying::part(sheet, s.sheet), replaying::part(sheet2, s.sheet));
+    a & b & c & d
+}
+
+// One call of the file's, with the buffers cut to their lengths.
+fn call(
+    fd: i32,
+    op: u8,
+    s: State,
+    it: &mut [u8],
+    policy: &[u8],
+    table: &mut [u8],
+    script: &[u8],
+    answers: &mut [u8],
+    sheet: &mut [u8],
+) -> bool {
+    let x = replaying::word(fd);
+    let y = replaying::word(fd);
+    let want = replaying::expected(fd, op == 25);
+    let it = replaying::part_mut(it, s.it);
+    let policy = replaying::part(policy, s.policy);
+    let table = replaying::part_mut(table, s.table);
+    let script = replaying::part(script, s.script);
+    let answers = replaying::part_mut(answers, s.answers);
+    let sheet = replaying::part_mut(sheet, s.sheet);
+    if op == 25 {
+        return replaying::agree(of_screened(screen::screen(it, policy, script, answers)), want);
+    }
+    if 21 <= op {
+        return replaying::agree(table_call(op, x, want, it, policy, table), want);
+    }
+    replaying::agree(itinerary_call(op, x, y, it, table, script, answers, sheet), want)
+}
+
+// The commands that set a shadow.
+fn shadow_command(fd: i32, op: u8, s: State, it2: &mut [u8], table2: &mut [u8], answers2: &mut [u8], sheet2: &mut [u8]) {
+    if op == 11 {
+        replaying::raise_bits(fd, table2);
+        return;
+    }
+    let buffer = replaying::byte(fd);
+    if buffer == 1 {
+        expect(fd, op, replaying::part_mut(it2, s.it));
+        return;
+    }
+    if buffer == 3 {
+        expect(fd, op, replaying::part_mut(table2, s.table));
+        return;
+    }
+    if buffer == 5 {
+        expect(fd, op, replaying::part_mut(answers2, s.answers));
+        return;
+    }
+    if buffer == 6 {
+        expect(fd, op, replaying::part_mut(sheet2, s.sheet));
+    }
+}
+
+fn expect(fd: i32, op: u8, shadow: &mut [u8]) {
+    if op == 9 {
+        replaying::expect_bytes(fd, shadow);
+    } else {
+        replaying::clear(shadow);
+    }
+}
+
+// The commands that set a buffer and its shadow: the state with its length.
+fn set_command(
+    fd: i32,
+    op: u8,
+    s: State,
+    it: &mut [u8],
+    it2: &mut [u8],
+    policy: &mut [u8],
+    script: &mut [u8],
+    answers: &mut [u8],
+    answers2: &mut [u8],
+    sheet: &mut [u8],
+    sheet2: &mut [u8],
+) -> State {
+    let mut next = s;
+    if op == 1 {
+        next.it = replaying::set(fd, it, it2);
+        return next;
+    }
+    if op == 2 {
+        next.policy = replaying::fill(fd, policy);
+        return next;
+    }
+    if op == 4 {
+        next.script = replaying::fill(fd, script);
+        return next;
+    }
+    if op == 5 {
+        next.answers = replaying::set(fd, answers, answers2);
+        return next;
+    }
+    next.sheet = replaying::set(fd, sheet, sheet2);
+    next
+}
+
+// The commands that set the table and its shadow.
+fn table_command(fd: i32, op: u8, s: State, table: &mut [u8], table2: &mut [u8]) -> State {
+    let mut next = s;
+    if op == 3 {
+        next.table = replaying::set(fd, table, table2);
+        return next;
+    }
+    if op == 7 {
+        next.table = replaying::wide(replaying::word(fd));
+        replaying::clear(table);
+        replaying::clear(table2);
+        return next;
+    }
+    replaying::turn_bits(fd, replaying::part_mut(table, s.table), replaying::part_mut(table2, s.table));
+    next
+}
+
+// One command of the file's.
+fn command(
+    fd: i32,
+    op: u8,
+    s: State,
+    it: &mut [u8],
+    it2: &mut [u8],
+    policy: &mut [u8],
+    table: &mut [u8],
+    table2: &mut [u8],
+    script: &mut [u8],
+    answers: &mut [u8],
+    answers2: &mut [u8],
+    sheet: &mut [u8],
+    sheet2: &mut [u8],
+) -> State {
+    if 16 <= op {
+        let agrees = call(fd, op, s, it, policy, table, script, answers, sheet);
+        let kept = as_shadowed(s, it, it2, table, table2, answers, answers2, sheet, sheet2);
+        let tally = replaying::counted(s.tally, agrees & kept);
+        let mut next = s;
+        next.tally = tally;
+        return next;
+    }
+    if 9 <= op {
+        shadow_command(fd, op, s, it2, table2, answers2, sheet2);
+        return s;
+    }
+    if (op == 3) | (op == 7) | (op == 8) {
+        return table_command(fd, op, s, table, table2);
+    }
+    set_command(fd, op, s, it, it2, policy, script, answers, answers2, sheet, sheet2)
+}
+
+// No buffer has bytes, and no call was made.
+fn start() -> State {
+    State {
+        it: 0,
+        policy: 0,
+        table: 0,
+        script: 0,
+        answers: 0,
+        sheet: 0,
+        tally: Tally {
+            calls: 0,
+            differ: 0,
+        },
+    }
+}
+
+// The commands of a file up to its end, at most a million.
+fn commands(
+    fd: i32,
+    it: &mut [u8],
+    it2: &mut [u8],
+    policy: &mut [u8],
+    table: &mut [u8],
+    table2: &mut [u8],
+    script: &mut [u8],
+    answers: &mut [u8],
+    answers2: &mut [u8],
+    sheet: &mut [u8],
+    sheet2: &mut [u8],
+) -> Tally {
+    let mut s = start();
+    let mut left: usize = 1000000;
+    while 0 < left {
+        left -= 1;
+        let op = replaying::byte(fd);
+        if op == 0 {
+            return s.tally;
+        }
+        s = command(
+            fd, op, s, it, it2, policy, table, table2, script, answers, answers2, sheet, sheet2,
+        );
+    }
+    s.tally
+}
+
+// Replays a file and reports what it found; a file that can't be opened has no calls.
+fn replay(path: &[u8]) {
+    let fd = os::open_read(path);
+    let mut it = [0u8; 8264];
+    let mut it2 = [0u8; 8264];
+    let mut policy = [0u8; 80];
+    let mut table = [0u8; 1560];
+    let mut table2 = [0u8; 1560];
+    let mut script = [0u8; 4104];
+    let mut answers = [0u8; 1032];
+    let mut answers2 = [0u8; 1032];
+    let mut sheet = [0u8; 8264];
+    let mut sheet2 = [0u8; 8264];
+    let t = commands(
+        fd,
+        &mut it,
+        &mut it2,
+        &mut policy,
+        &mut table,
+        &mut table2,
+        &mut script,
+        &mut answers,
+        &mut answers2,
+        &mut sheet,
+        &mut sheet2,
+    );
+    libc::close(fd);
+    replaying::report(path, t);
+}
+
+fn main() {
+    replay(b"itinerary.cases");
+    replay(b"table.cases");
+    replay(b"screen.cases");
+}

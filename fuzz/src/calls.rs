@@ -1,0 +1,148 @@
+//! A call of the simulator, of the library's entry, and of the safe wrapper.
+
+use crate::buffers::{Buffers, Rooms};
+use birnsket::raw;
+use birnsket::{Refusal, Verdict};
+
+#[derive(Clone, Copy, Debug, PartialEq, Eq)]
+pub enum Call {
+    Validate,
+    Container(u16),
+    Sheet,
+    Step(u16, u16),
+    Run,
+    Check,
+    Make,
+    Verdict,
+    Row(u8),
+    Screen,
+}
+
+impl Call {
+    pub fn name(self) -> &'static str {
+        match self {
+            Call::Validate => "validate",
+            Call::Container(_) => "container",
+            Call::Sheet => "sheet",
+            Call::Step(..) => "step",
+            Call::Run => "run",
+            Call::Check => "check",
+            Call::Make => "make",
+            Call::Verdict => "verdict",
+            Call::Row(_) => "row",
+            Call::Screen => "screen",
+        }
+    }
+}
+
+/// Number, record and six values.
+pub type Answer = [u16; 8];
+
+/// The simulator's call.
+pub fn simulate(call: Call, lent: &mut Buffers) -> Answer {
+    let Buffers { itinerary, policy, table, script, answers, sheet } = lent;
+    let answer = match call {
+        Call::Validate => simulator::validate(itinerary),
+        Call::Container(number) => simulator::container(itinerary, number),
+        Call::Sheet => simulator::sheet(itinerary, table, sheet),
+        Call::Step(actor, partner) => simulator::step(itinerary, actor, partner),
+        Call::Run => simulator::run(itinerary, script, answers),
+        Call::Check => simulator::check(itinerary, policy, table),
+        Call::Make => simulator::maker(itinerary, policy, table),
+        Call::Verdict => simulator::verdict(itinerary, policy, table),
+        Call::Row(label) => simulator::row(table, u16::from(label)),
+        Call::Screen => simulator::screen(itinerary, policy, script, answers),
+    };
+    let [v0, v1, v2, v3, v4, v5] = answer.values;
+    [u16::from(answer.number), answer.record, v0, v1, v2, v3, v4, v5]
+}
+
+/// Pointer and length of each buffer named, then the other arguments.
+macro_rules! enter {
+    ($entry:ident, $($buffer:expr),+ $(; $($number:expr),+)?) => {
+        enter!(@ $entry, [$($buffer),+], [$($($number),+)?])
+    };
+    (@ $entry:ident, [$a:expr], [$($n:expr),*]) => {
+        unsafe { raw::$entry($a.as_mut_ptr(), $a.len(), $($n),*) }
+    };
+    (@ $entry:ident, [$a:expr, $b:expr, $c:expr], []) => {
+        unsafe { raw::$entry($a.as_mut_ptr(), $a.len(), $b.as_mut_ptr(), $b.len(), $c.as_mut_ptr(), $c.len()) }
+    };
+    (@ $entry:ident, [$a:expr, $b:expr, $c:expr, $d:expr], []) => {
+        unsafe {
+            raw::$entry(
+                $a.as_mut_ptr(), $a.len(), $b.as_mut_ptr(), $b.len(),
+                $c.as_mut_ptr(), $c.len(), $d.as_mut_ptr(), $d.len(),
+            )
+        }
+    };
+}
+
+/// The library's entry. The rooms are apart and live through the call, so that the
+/// caller's duties are kept.
+pub fn enter(call: Call, lent: &mut Rooms) -> Answer {
+    let (it, policy) = (lent.itinerary.content_mut(), lent.policy.content_mut());
+    let (table, script) = (lent.table.content_mut(), lent.script.content_mut());
+    let (answers, sheet) = (lent.answers.content_mut(), lent.sheet.content_mut());
+    let r = match call {
+        Call::Validate => enter!(hub_validate, it),
+        Call::Container(number) => enter!(hub_container, it; number),
+        Call::Sheet => enter!(hub_sheet, it, table, sheet),
+        Call::Step(actor, partner) => enter!(hub_step, it; actor, partner),
+        Call::Run => enter!(hub_run, it, script, answers),
+        Call::Check => enter!(hub_check, it, policy, table),
+        Call::Make => enter!(hub_make, it, policy, table),
+        Call::Verdict => enter!(hub_verdict, it, policy, table),
+        Call::Row(label) => enter!(hub_row, table; label),
+        Call::Screen => enter!(hub_screen, it, policy, script, answers),
+    };
+    [r.number, r.at, r.v0, r.v1, r.v2, r.v3, r.v4, r.v5]
+}
+
+/// The same through the safe wrapper.
+pub fn enter_safely(call: Call, lent: &mut Rooms) -> Answer {
+    let (it, policy) = (lent.itinerary.content_mut(), lent.policy.content());
+    let (table, script) = (lent.table.content_mut(), lent.script.content());
+    let (answers, sheet) = (lent.answers.content_mut(), lent.sheet.content_mut());
+    let done = match call {
+        Call::Validate => birnsket::validate(it).map(|count| vec![count]),
+        Call::Container(number) => birnsket::container(it, number).map(|label| vec![u16::from(label)]),
+        Call::Sheet => birnsket::sheet(it, table, sheet).map(|()| vec![]),
+        Call::Step(actor, partner) => birnsket::step(it, actor, partner).map(|()| vec![]),
+        Call::Run => birnsket::run(it, script, answers).map(|c| vec![c.ins, c.outs, c.opens]),
+        Call::Check => birnsket::check(it, policy, table).map(|()| vec![]),
+        Call::Make => birnsket::make(it, policy, table).map(|ones| vec![ones]),
+        Call::Verdict => birnsket::verdict(it, policy, table).map(|v| vec![code(v).0, code(v).1]),
+        Call::Row(label) => Ok(part(table, birnsket::row(table, label))),
+        Call::Screen => birnsket::screen(it, policy, script, answers).map(shown),
+    };
+    packed(done)
+}
+
+fn code(verdict: Verdict) -> (u16, u16) {
+    match verdict {
+        Verdict::Exposed(label) => (1, u16::from(label)),
+        Verdict::Hinted(label) => (2, u16::from(label)),
+        Verdict::Sealed => (3, 0),
+    }
+}
+
+/// Offset and length of a part of the table.
+fn part(table: &[u8], row: &[u8]) -> Vec<u16> {
+    vec![(row.as_ptr() as usize - table.as_ptr() as usize) as u16, row.len() as u16]
+}
+
+fn shown(screen: birnsket::Screen) -> Vec<u16> {
+    let (verdict, label) = code(screen.verdict);
+    let counts = screen.counts;
+    vec![256 * verdict + label, screen.ones, counts.ins, counts.outs, counts.opens, screen.left]
+}
+
+fn packed(done: Result<Vec<u16>, Refusal>) -> Answer {
+    let mut answer = [0; 8];
+    match done {
+        Ok(values) => answer[2..2 + values.len()].copy_from_slice(&values),
+        Err(Refusal { number, record }) => answer[..2].copy_from_slice(&[number, record]),
+    }
+    answer
+}
