@@ -1,11 +1,17 @@
 -- How number, record and values are packed into a result: number 0 and the values where a call is done; the refusal's
 -- number and record, and values 0, where it is refused.
 use Rattle.firmware.specs.declared.HubResult.{HubResult}
-use Prim.Native.Nat.{ℕ}
+use Prim.Native.Nat.{_*_, _+_, ℕ}
+use lib.Count.{ones}
+use lib.Dec.{leb}
+use mathlib.Core.Bool.{Bool, _&&_, false, true}
+use mathlib.Core.List.{List}
 use Rattle.model.specs.Records.{at}
 use Rattle.model.specs.Refusals.{Answer, done, number, refused}
+use Rattle.model.specs.Tables.{tableSized}
 use Rattle.model.specs.Verdicts.{labelOf}
 use Rattle.model.specs.declared.Counts.{Counts}
+use Rattle.model.specs.declared.Screen.{Screen}
 use Rattle.model.specs.declared.Verdict.{Verdict}
 use Rattle.model.specs.declared.Verdict.the-variants.{Exposed, Hinted, Sealed}
 
@@ -42,3 +48,15 @@ verdictCode Sealed = 3
 -- the verdict's code and its label, 0 if sealed
 unfoldable pub verdicts : Verdict → HubResult
 verdicts v = values (verdictCode v) (labelOf v) 0 0 0 0
+
+-- 256 times the verdict's code plus its label, bits set, ins, outs, opens, records not gone
+unfoldable pub screens : Screen → HubResult
+screens x = values (256 * verdictCode (x .verdict) + labelOf (x .verdict)) (x .ones) (x .counts .ins) (x .counts .outs) (x .counts .opens) (x .left)
+
+unfoldable pub rowBy : Bool → ℕ → HubResult
+rowBy true label = values (16 * label) 16 0 0 0 0
+rowBy false label = values 0 0 0 0 0 0
+
+-- the offset and the length of a label's row in the table, both 0 for the empty part
+unfoldable pub rows : List ℕ → ℕ → HubResult
+rows table label = rowBy (tableSized table && leb label 63) label

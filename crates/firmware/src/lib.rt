@@ -1,13 +1,19 @@
 // The calls of the library as functions for callers in other languages. What a caller owes is in include/birnsket.h.
 use model::Contained;
+use model::Judged;
+use model::Made;
 use model::Performed;
 use model::Ran;
 use model::Refusal;
+use model::Screened;
 use model::Validated;
+use model::Verdict;
 ghost use mathlib.Core.Path.{_≡_};
-ghost use Rattle.model.specs.Calls.{containerAnswer, runAfter, runAnswer, runAnswers, sheetAfter, sheetAnswer, stepAfter, stepAnswer, validateAnswer};
-ghost use Rattle.model.specs.Numbers.{containedAs, performedAs, ranAs, validatedAs};
-ghost use Rattle.firmware.specs.Packing.{bare, counts, packed, refusalOf, single, values};
+ghost use Prim.Native.Nat.{_≤_};
+ghost use Rattle.model.specs.Calls.{checkAnswer, containerAnswer, makeAfter, makeAnswer, runAfter, runAnswer, runAnswers, screenAfter, screenAnswer, screenAnswers, sheetAfter, sheetAnswer, stepAfter, stepAnswer, validateAnswer, verdictAnswer};
+ghost use Rattle.model.specs.Numbers.{containedAs, judgedAs, madeAs, performedAs, ranAs, screenedAs, validatedAs};
+ghost use Rattle.model.specs.Verdicts.{labelOf};
+ghost use Rattle.firmware.specs.Packing.{bare, counts, packed, refusalOf, rows, screens, single, values, verdictCode, verdicts};
 
 // An answer: number 0 and up to six values where the call is done; the refusal's number and record where it is refused.
 #[repr(C)]
@@ -88,6 +94,66 @@ fn ran(x: Ran) -> HubResult
     }
 }
 
+fn made(x: Made) -> HubResult
+    ensures { λ r. ⌜ r ≡ packed single (madeAs x) ⌝ }
+{
+    match x {
+        Made::Done(n) => done(n, 0, 0),
+        Made::Refused(r) => refused(r),
+    }
+}
+
+fn verdict_code(v: Verdict) -> u16
+    ensures { λ r. ⌜ (r ≡ verdictCode v) × (r ≤ 3) ⌝ }
+{
+    match v {
+        Verdict::Exposed(_) => 1,
+        Verdict::Hinted(_) => 2,
+        Verdict::Sealed => 3,
+    }
+}
+
+fn verdict_label(v: Verdict) -> u8
+    ensures { λ r. ⌜ r ≡ labelOf v ⌝ }
+{
+    match v {
+        Verdict::Exposed(k) => k,
+        Verdict::Hinted(k) => k,
+        Verdict::Sealed => 0,
+    }
+}
+
+fn judged(x: Judged) -> HubResult
+    ensures { λ r. ⌜ r ≡ packed verdicts (judgedAs x) ⌝ }
+{
+    match x {
+        Judged::Done(v) => done(verdict_code(v), verdict_label(v) as u16, 0),
+        Judged::Refused(r) => refused(r),
+    }
+}
+
+fn screened(x: Screened) -> HubResult
+    ensures { λ r. ⌜ r ≡ packed screens (screenedAs x) ⌝ }
+{
+    match x {
+        Screened::Done(s) => {
+            let v = s.verdict;
+            let c = s.counts;
+            HubResult {
+                number: 0,
+                at: 0,
+                v0: 256 * verdict_code(v) + (verdict_label(v) as u16),
+                v1: s.ones,
+                v2: c.ins,
+                v3: c.outs,
+                v4: c.opens,
+                v5: s.left,
+            }
+        }
+        Screened::Refused(r) => refused(r),
+    }
+}
+
 // Validates an itinerary; v0 is the number of records.
 #[no_mangle]
 pub extern "C" fn hub_validate(it: &[u8]) -> HubResult
@@ -130,4 +196,53 @@ pub extern "C" fn hub_run(it: &mut [u8], script: &[u8], answers: &mut [u8]) -> H
         × (now (answers .exit) ≡ runAnswers (now (it .entry)) (now (script .entry)) (now (answers .entry))) ⌝ }
 {
     ran(calculus::run(it, script, answers))
+}
+
+// Checks a table.
+#[no_mangle]
+pub extern "C" fn hub_check(it: &[u8], policy: &[u8], table: &[u8]) -> HubResult
+    ensures { λ r. ⌜ r ≡ packed bare (checkAnswer (now (it .entry)) (now (policy .entry)) (now (table .entry))) ⌝ }
+{
+    performed(analysis::check(it, policy, table))
+}
+
+// Makes the least table; v0 is how many of its bits are one.
+#[no_mangle]
+pub extern "C" fn hub_make(it: &[u8], policy: &[u8], table: &mut [u8]) -> HubResult
+    ensures { λ r. ⌜ (r ≡ packed single (makeAnswer (now (it .entry)) (now (policy .entry)) (now (table .entry))))
+        × (now (table .exit) ≡ makeAfter (now (it .entry)) (now (policy .entry)) (now (table .entry))) ⌝ }
+{
+    made(analysis::make(it, policy, table))
+}
+
+// Gives the verdict; v0 is 1 for exposed, 2 for hinted, 3 for sealed, and v1 its label.
+#[no_mangle]
+pub extern "C" fn hub_verdict(it: &[u8], policy: &[u8], table: &[u8]) -> HubResult
+    ensures { λ r. ⌜ r ≡ packed verdicts (verdictAnswer (now (it .entry)) (now (policy .entry)) (now (table .entry))) ⌝ }
+{
+    judged(analysis::verdict(it, policy, table))
+}
+
+// The row of a label in the caller's table: v0 is its offset and v1 its length, both 0 for the empty part. (An exported
+// function returns no reference.)
+#[no_mangle]
+pub extern "C" fn hub_row(table: &[u8], label: u8) -> HubResult
+    ensures { λ r. ⌜ r ≡ rows (now (table .entry)) label ⌝ }
+{
+    let row = tables::row(table, label);
+    if row.len() == 16 {
+        return done(16 * (label as u16), 16, 0);
+    }
+    done(0, 0, 0)
+}
+
+// Makes the table, gives its verdict and runs the script; v0 is 256 times the verdict's number plus its label, v1 the
+// bits set, v2, v3 and v4 the ins, outs and opens done, v5 the records not gone.
+#[no_mangle]
+pub extern "C" fn hub_screen(it: &mut [u8], policy: &[u8], script: &[u8], answers: &mut [u8]) -> HubResult
+    ensures { λ r. ⌜ (r ≡ packed screens (screenAnswer (now (it .entry)) (now (policy .entry)) (now (script .entry)) (now (answers .entry))))
+        × (now (it .exit) ≡ screenAfter (now (it .entry)) (now (policy .entry)) (now (script .entry)) (now (answers .entry)))
+        × (now (answers .exit) ≡ screenAnswers (now (it .entry)) (now (policy .entry)) (now (script .entry)) (now (answers .entry))) ⌝ }
+{
+    screened(screen::screen(it, policy, script, answers))
 }

@@ -1,0 +1,150 @@
+//! The inputs of the rows.
+
+use birnsket::TABLE_LENGTH;
+use simulator::generate::policies;
+use simulator::generate::trees::{chain, tree, Links, Mix};
+use simulator::random::Random;
+use simulator::record::{Itinerary, Kind, Record, MOST_RECORDS};
+
+/// What a row lends to the calls.
+#[derive(Clone, Debug, PartialEq, Eq)]
+pub struct Lent {
+    pub itinerary: Vec<u8>,
+    pub policy: Vec<u8>,
+    pub table: Vec<u8>,
+    pub script: Vec<u8>,
+    pub answers: Vec<u8>,
+    pub sheet: Vec<u8>,
+    /// A record number, or the actor of a step.
+    pub number: u16,
+    pub partner: u16,
+}
+
+impl Lent {
+    /// The itinerary with the usual policy and its least table.
+    fn of(itinerary: &Itinerary) -> Lent {
+        let (itinerary, policy) = (itinerary.bytes(), policies::usual().to_vec());
+        let mut table = vec![0; TABLE_LENGTH];
+        birnsket::make(&itinerary, &policy, &mut table).expect("a good itinerary");
+        let sheet = vec![0; itinerary.len()];
+        Lent { itinerary, policy, table, script: vec![], answers: vec![], sheet, number: 0, partner: 0 }
+    }
+
+    pub fn about(mut self, number: u16, partner: u16) -> Lent {
+        (self.number, self.partner) = (number, partner);
+        self
+    }
+
+    fn with_script(mut self, steps: impl Iterator<Item = (u16, u16)>) -> Lent {
+        for (actor, partner) in steps {
+            self.script.extend(actor.to_le_bytes());
+            self.script.extend(partner.to_le_bytes());
+        }
+        self.answers = vec![0; self.script.len() / 4];
+        self
+    }
+}
+
+fn ambient(label: usize, name: u8, parent: usize) -> Record {
+    Record { kind: Kind::Ambient, label: label as u8, name, parent: parent as u16 }
+}
+
+fn order(kind: Kind, label: usize, name: u8, parent: usize) -> Record {
+    Record { kind, label: label as u8, name, parent: parent as u16 }
+}
+
+/// 1,024 ambients, each the parent of the next.
+pub fn in_order() -> Lent {
+    Lent::of(&chain(MOST_RECORDS, Links::Ambients, false))
+}
+
+/// The same with each the parent of the one before it: the first climb is the deepest.
+pub fn reversed() -> Lent {
+    Lent::of(&chain(MOST_RECORDS, Links::Ambients, true))
+}
+
+fn wide() -> Mix {
+    Mix {
+        records: MOST_RECORDS,
+        gone: 0,
+        capabilities: 50,
+        top: 5,
+        behind: 50,
+        suited: 30,
+        labels: 63,
+        orders: 64,
+        names: 64,
+    }
+}
+
+/// Every label, order and name, at random.
+pub fn random() -> Lent {
+    Lent::of(&tree(&mut Random::new(1), &wide()))
+}
+
+/// Few names, so that nearly every ambient can go nearly anywhere.
+pub fn dense() -> Lent {
+    Lent::of(&tree(&mut Random::new(2), &Mix { names: 2, ..wide() }))
+}
+
+/// An ambient and 1,023 capabilities, each behind the other: every container is a
+/// long way up.
+pub fn deep() -> Lent {
+    Lent::of(&chain(MOST_RECORDS, Links::Capabilities, false))
+}
+
+const ROOMS: usize = 31;
+const MOVERS: usize = 16;
+
+/// A relay: a mover goes down through rooms numbered against the order in which a
+/// pass looks at them, so that each room takes a pass of its own. In the last room
+/// it is opened, and the box in it goes up and is opened in the environment; out
+/// comes the next mover. Orders that nobody can use fill the rest.
+pub fn relay() -> Lent {
+    let (room, mover, opened) = (0, 1, 2);
+    let mut records: Vec<Record> = Vec::new();
+    for label in (1..=ROOMS).rev() {
+        records.push(ambient(label, room, records.len()));
+    }
+    records.push(order(Kind::Open, 64, mover, ROOMS));
+    records.push(order(Kind::Open, 65, opened, 0));
+    let mut parent = 0;
+    for stage in 0..MOVERS {
+        records.push(ambient(ROOMS + 1 + stage, mover, parent));
+        let at = records.len();
+        records.push(order(Kind::In, 64, room, at));
+        records.push(ambient(ROOMS + MOVERS + 1 + stage, opened, at));
+        parent = records.len();
+        records.push(order(Kind::Out, 64, room, parent));
+    }
+    while records.len() < MOST_RECORDS {
+        let label = 65 + records.len() % 63;
+        records.push(order(Kind::ALL[2 + records.len() % 2], label, room, 0));
+    }
+    Lent::of(&Itinerary { records })
+}
+
+/// An ambient goes in and out of its neighbour 1,022 times.
+pub fn to_and_fro() -> Lent {
+    let mut records = vec![ambient(1, 0, 0), ambient(2, 1, 0)];
+    for place in 0..1022 {
+        records.push(order(Kind::ALL[2 + place % 2], 64 + place % 64, 1, 1));
+    }
+    Lent::of(&Itinerary { records }).with_script((3..=1024).map(|actor| (actor, 2)))
+}
+
+/// 511 opens inside an ambient.
+pub fn opens() -> Lent {
+    let mut records = vec![ambient(1, 0, 0)];
+    for place in 0..511 {
+        records.push(ambient(1 + place % 63, 1, 1));
+        records.push(order(Kind::Open, 64 + place % 64, 1, 1));
+    }
+    Lent::of(&Itinerary { records }).with_script((1..=511).map(|step| (2 * step + 1, 2 * step)))
+}
+
+/// 1,024 steps of the capability below 1,023 ambients, each with a wrong partner.
+pub fn refused() -> Lent {
+    let itinerary = chain(MOST_RECORDS, Links::LastActs(Kind::Open), false);
+    Lent::of(&itinerary).with_script((0..1024).map(|_| (1024, 1)))
+}

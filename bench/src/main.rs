@@ -1,0 +1,36 @@
+//! Times the library beside the same algorithms in plain Rust, measures its stack,
+//! and compares its least tables with clingo's.
+
+mod inputs;
+mod oracle;
+mod plain;
+mod rows;
+mod stack;
+mod timing;
+
+use std::process::ExitCode;
+
+const SEED: u64 = 1;
+const COUNT: usize = 300;
+
+fn main() -> ExitCode {
+    let words: Vec<String> = std::env::args().skip(1).collect();
+    let words: Vec<&str> = words.iter().map(String::as_str).collect();
+    match words[..] {
+        ["time"] => rows::print(),
+        ["stack"] => stack::print(),
+        ["clingo"] => oracle::print(SEED, COUNT),
+        [] => {
+            rows::print();
+            println!();
+            stack::print();
+            println!();
+            oracle::print(SEED, COUNT);
+        }
+        _ => {
+            eprintln!("usage: bench [time|stack|clingo]");
+            return ExitCode::from(2);
+        }
+    }
+    ExitCode::SUCCESS
+}

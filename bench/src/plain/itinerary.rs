@@ -1,0 +1,122 @@
+//! Records, validation and climbing.
+
+use super::refuse;
+use birnsket::Refusal;
+
+pub const RECORD: usize = 8;
+pub const AMBIENT: u8 = 1;
+pub const IN: u8 = 2;
+pub const OUT: u8 = 3;
+pub const OPEN: u8 = 4;
+
+#[derive(Clone, Copy)]
+pub struct Record {
+    pub kind: u8,
+    pub label: u8,
+    pub name: u8,
+    pub parent: u16,
+}
+
+impl Record {
+    pub const GONE: Record = Record { kind: 0, label: 0, name: 0, parent: 0 };
+
+    pub fn read(bytes: &[u8]) -> Record {
+        let parent = u16::from_le_bytes([bytes[4], bytes[5]]);
+        Record { kind: bytes[0], label: bytes[1], name: bytes[2], parent }
+    }
+
+    /// Record `number`, gone for 0 and over the count.
+    pub fn at(itinerary: &[u8], number: u16) -> Record {
+        let start = RECORD * usize::from(number);
+        match start.checked_sub(RECORD).and_then(|start| itinerary.get(start..start + RECORD)) {
+            Some(bytes) => Record::read(bytes),
+            None => Record::GONE,
+        }
+    }
+}
+
+/// All records, from number 1 up.
+pub fn records(itinerary: &[u8]) -> impl Iterator<Item = Record> + '_ {
+    itinerary.chunks_exact(RECORD).map(Record::read)
+}
+
+/// The first of 2 to 5 that a record breaks.
+fn fault(itinerary: &[u8], bytes: &[u8]) -> Option<u16> {
+    let record = Record::read(bytes);
+    let spare = bytes[3] | bytes[6] | bytes[7];
+    if record.kind == 0 {
+        let empty = record.label | record.name | spare == 0 && record.parent == 0;
+        return if empty { None } else { Some(2) };
+    }
+    if record.kind > OPEN || spare != 0 {
+        return Some(2);
+    }
+    let labels = if record.kind == AMBIENT { 1..=63 } else { 64..=127 };
+    if !labels.contains(&record.label) {
+        return Some(3);
+    }
+    if record.name > 63 {
+        return Some(4);
+    }
+    if record.parent != 0 && Record::at(itinerary, record.parent).kind == 0 {
+        return Some(5);
+    }
+    None
+}
+
+/// Whether climbing from `number` reaches the environment. `known` marks numbers
+/// that do, so that no record is climbed from twice.
+fn climb(itinerary: &[u8], known: &mut [bool; 1025], number: u16) -> bool {
+    let mut at = number;
+    let mut left = itinerary.len() / RECORD;
+    while !known[usize::from(at)] {
+        if left == 0 {
+            return false;
+        }
+        left -= 1;
+        at = Record::at(itinerary, at).parent;
+    }
+    at = number;
+    while !known[usize::from(at)] {
+        known[usize::from(at)] = true;
+        at = Record::at(itinerary, at).parent;
+    }
+    true
+}
+
+/// The number of records, or the first of refusals 1 to 6.
+pub fn validate(itinerary: &[u8]) -> Result<u16, Refusal> {
+    if itinerary.len() % RECORD != 0 || itinerary.len() > 8192 {
+        return refuse(1);
+    }
+    for (place, bytes) in itinerary.chunks_exact(RECORD).enumerate() {
+        if let Some(number) = fault(itinerary, bytes) {
+            return Err(Refusal { number, record: place as u16 + 1 });
+        }
+    }
+    let count = (itinerary.len() / RECORD) as u16;
+    let mut known = [false; 1025];
+    known[0] = true;
+    match (1..=count).find(|&number| !climb(itinerary, &mut known, number)) {
+        Some(record) => Err(Refusal { number: 6, record }),
+        None => Ok(count),
+    }
+}
+
+/// The label of the nearest ambient from `number` on upwards.
+pub fn nearest(itinerary: &[u8], number: u16) -> u8 {
+    let mut at = number;
+    while at != 0 {
+        let record = Record::at(itinerary, at);
+        if record.kind == AMBIENT {
+            return record.label;
+        }
+        at = record.parent;
+    }
+    0
+}
+
+pub fn container(itinerary: &[u8], number: u16) -> Result<u8, Refusal> {
+    validate(itinerary)?;
+    Ok(nearest(itinerary, Record::at(itinerary, number).parent))
+}

@@ -1,0 +1,19 @@
+//! The library's algorithms in safe Rust, with the same answers.
+
+mod closure;
+mod itinerary;
+mod sheet;
+mod steps;
+mod tables;
+
+pub use itinerary::{container, validate};
+pub use sheet::sheet;
+pub use steps::{run, step};
+pub use tables::{check, make, passes, verdict};
+
+use birnsket::Refusal;
+
+/// A refusal that names no record.
+fn refuse<T>(number: u16) -> Result<T, Refusal> {
+    Err(Refusal { number, record: 0 })
+}

@@ -1,0 +1,125 @@
+//! The rows of the table.
+
+use crate::inputs::{self, Lent};
+use crate::plain;
+use crate::timing::{row, Row};
+
+fn validate(name: &'static str, lent: &Lent) -> Row {
+    row(name, lent, |l| birnsket::validate(&l.itinerary), |l| plain::validate(&l.itinerary))
+}
+
+fn container(name: &'static str, lent: &Lent) -> Row {
+    row(
+        name,
+        lent,
+        |l| birnsket::container(&l.itinerary, l.number),
+        |l| plain::container(&l.itinerary, l.number),
+    )
+}
+
+fn sheet(name: &'static str, lent: &Lent) -> Row {
+    row(
+        name,
+        lent,
+        |l| birnsket::sheet(&l.itinerary, &l.table, &mut l.sheet),
+        |l| plain::sheet(&l.itinerary, &l.table, &mut l.sheet),
+    )
+}
+
+fn step(name: &'static str, lent: &Lent) -> Row {
+    row(
+        name,
+        lent,
+        |l| birnsket::step(&mut l.itinerary, l.number, l.partner),
+        |l| plain::step(&mut l.itinerary, l.number, l.partner),
+    )
+}
+
+fn run(name: &'static str, lent: &Lent) -> Row {
+    row(
+        name,
+        lent,
+        |l| birnsket::run(&mut l.itinerary, &l.script, &mut l.answers),
+        |l| plain::run(&mut l.itinerary, &l.script, &mut l.answers),
+    )
+}
+
+fn check(name: &'static str, lent: &Lent) -> Row {
+    row(
+        name,
+        lent,
+        |l| birnsket::check(&l.itinerary, &l.policy, &l.table),
+        |l| plain::check(&l.itinerary, &l.policy, &l.table),
+    )
+}
+
+fn make(name: &'static str, lent: &Lent) -> Row {
+    row(
+        name,
+        lent,
+        |l| birnsket::make(&l.itinerary, &l.policy, &mut l.table),
+        |l| plain::make(&l.itinerary, &l.policy, &mut l.table),
+    )
+}
+
+fn verdict(name: &'static str, lent: &Lent) -> Row {
+    row(
+        name,
+        lent,
+        |l| birnsket::verdict(&l.itinerary, &l.policy, &l.table),
+        |l| plain::verdict(&l.itinerary, &l.policy, &l.table),
+    )
+}
+
+fn itinerary_rows() -> Vec<Row> {
+    let (in_order, reversed) = (inputs::in_order(), inputs::reversed());
+    let (random, deep) = (inputs::random(), inputs::deep());
+    let to_and_fro = inputs::to_and_fro();
+    vec![
+        validate("validate, chain in file order", &in_order),
+        validate("validate, chain reversed", &reversed),
+        validate("validate, random", &random),
+        container("container, random", &random.clone().about(500, 0)),
+        container("container, 1,022 capabilities up", &deep.clone().about(1024, 0)),
+        sheet("sheet, chain in file order", &in_order),
+        sheet("sheet, chain reversed", &reversed),
+        sheet("sheet, random", &random),
+        step("step, in", &to_and_fro.clone().about(3, 2)),
+        step("step, open", &inputs::opens().about(3, 2)),
+        run("run, 1,022 ins and outs", &to_and_fro),
+        run("run, 511 opens", &inputs::opens()),
+        run("run, 1,024 refused at depth 1,023", &inputs::refused()),
+    ]
+}
+
+fn table_rows() -> Vec<Row> {
+    let (random, dense) = (inputs::random(), inputs::dense());
+    let (deep, relay) = (inputs::deep(), inputs::relay());
+    vec![
+        check("check, random", &random),
+        check("check, dense", &dense),
+        check("check, deep", &deep),
+        check("check, relay", &relay),
+        make("make, random", &random),
+        make("make, dense", &dense),
+        make("make, deep", &deep),
+        make("make, relay", &relay),
+        verdict("verdict, random", &random),
+        verdict("verdict, dense", &dense),
+        verdict("verdict, relay", &relay),
+    ]
+}
+
+/// Measures and prints all rows.
+pub fn print() {
+    println!("| call and input | library | Rust | ratio |\n|---|---:|---:|---:|");
+    for row in itinerary_rows().into_iter().chain(table_rows()) {
+        let (library, plain) = (row.library / 1000.0, row.plain / 1000.0);
+        println!("| {} | {library:.2} µs | {plain:.2} µs | {:.2} |", row.name, row.ratio());
+    }
+    for (name, lent) in
+        [("random", inputs::random()), ("dense", inputs::dense()), ("deep", inputs::deep()), ("relay", inputs::relay())]
+    {
+        println!("The maker's passes, {name}: {}.", plain::passes(&lent.itinerary, &lent.policy));
+    }
+}

@@ -1,0 +1,69 @@
+//! How deep the calls go into the stack: a thread's stack is painted, a call is
+//! made, and the lowest byte that lost its paint is looked for.
+
+use crate::inputs::{self, Lent};
+use std::hint::black_box;
+use std::thread;
+
+const STACK: usize = 1 << 20;
+const PAINTED: usize = 512 << 10;
+/// Room for the frames of the measurement itself.
+const OWN: usize = 1024;
+const PAINT: u8 = 0xa5;
+
+/// The thread's stack is 1 MiB and hardly used, so that all of PAINTED below `top`
+/// belongs to it and holds nothing.
+#[inline(never)]
+fn paint(top: usize) {
+    for at in top - PAINTED..top - OWN {
+        unsafe { (at as *mut u8).write_volatile(PAINT) };
+    }
+}
+
+#[inline(never)]
+fn lowest(top: usize) -> usize {
+    let bytes = top - PAINTED..top - OWN;
+    let changed = |&at: &usize| unsafe { (at as *const u8).read_volatile() } != PAINT;
+    top - bytes.into_iter().find(changed).unwrap_or(top - OWN)
+}
+
+/// Bytes of stack that the call takes, to within a few hundred.
+fn depth(lent: &Lent, call: fn(&mut Lent)) -> usize {
+    let mut lent = lent.clone();
+    let measure = move || {
+        let here = black_box(0u8);
+        let top = &raw const here as usize;
+        paint(top);
+        call(black_box(&mut lent));
+        lowest(top)
+    };
+    let thread = thread::Builder::new().stack_size(STACK).spawn(measure);
+    thread.ok().and_then(|thread| thread.join().ok()).unwrap_or(0)
+}
+
+type Measured = (&'static str, fn(&mut Lent));
+
+const CALLS: [Measured; 10] = [
+    ("validate", |l| drop(black_box(birnsket::validate(&l.itinerary)))),
+    ("container", |l| drop(black_box(birnsket::container(&l.itinerary, 1)))),
+    ("sheet", |l| drop(black_box(birnsket::sheet(&l.itinerary, &l.table, &mut l.sheet)))),
+    ("step", |l| drop(black_box(birnsket::step(&mut l.itinerary, l.number, 1)))),
+    ("run", |l| drop(black_box(birnsket::run(&mut l.itinerary, &l.script, &mut l.answers)))),
+    ("check", |l| drop(black_box(birnsket::check(&l.itinerary, &l.policy, &l.table)))),
+    ("make", |l| drop(black_box(birnsket::make(&l.itinerary, &l.policy, &mut l.table)))),
+    ("verdict", |l| drop(black_box(birnsket::verdict(&l.itinerary, &l.policy, &l.table)))),
+    ("row", |l| drop(black_box(birnsket::row(&l.table, 1).len()))),
+    ("screen", |l| {
+        drop(black_box(birnsket::screen(&mut l.itinerary, &l.policy, &l.script, &mut l.answers)))
+    }),
+];
+
+/// Prints the deepest of each call on chains of 1,024 records.
+pub fn print() {
+    let inputs = [inputs::reversed().about(1, 1), inputs::refused().about(1024, 1), inputs::deep()];
+    println!("| call | stack |\n|---|---:|");
+    for (name, call) in CALLS {
+        let deepest = inputs.iter().map(|lent| depth(lent, call)).max().unwrap_or(0);
+        println!("| {name} | {deepest} bytes |");
+    }
+}

@@ -1,0 +1,58 @@
+//! Medians of many repetitions, both sides in turns.
+
+use crate::inputs::Lent;
+use std::fmt::Debug;
+use std::hint::black_box;
+use std::time::{Duration, Instant};
+
+const TURN: usize = 8;
+const LEAST: usize = 24;
+const MOST: usize = 4000;
+const TIME: Duration = Duration::from_millis(800);
+
+/// Medians in nanoseconds.
+pub struct Row {
+    pub name: &'static str,
+    pub library: f64,
+    pub plain: f64,
+}
+
+impl Row {
+    pub fn ratio(&self) -> f64 {
+        self.library / self.plain
+    }
+}
+
+/// The time of one call on fresh buffers; making them fresh is not counted.
+fn once<R>(fresh: &Lent, work: &mut Lent, call: &impl Fn(&mut Lent) -> R) -> u64 {
+    work.clone_from(fresh);
+    let work = black_box(work);
+    let start = Instant::now();
+    black_box(call(work));
+    start.elapsed().as_nanos() as u64
+}
+
+fn median(mut times: Vec<u64>) -> f64 {
+    times.sort_unstable();
+    let middle = times.len() / 2;
+    (times[middle - 1] + times[middle]) as f64 / 2.0
+}
+
+/// Times both calls after seeing that they give the same answer and buffers.
+pub fn row<R: PartialEq + Debug>(
+    name: &'static str,
+    fresh: &Lent,
+    library: impl Fn(&mut Lent) -> R,
+    plain: impl Fn(&mut Lent) -> R,
+) -> Row {
+    let (mut work, mut other) = (fresh.clone(), fresh.clone());
+    assert_eq!(library(&mut work), plain(&mut other), "{name}: answers");
+    assert!(work == other, "{name}: buffers");
+    let (mut first, mut second) = (Vec::new(), Vec::new());
+    let start = Instant::now();
+    while first.len() < LEAST || (first.len() < MOST && start.elapsed() < TIME) {
+        first.extend((0..TURN).map(|_| once(fresh, &mut work, &library)));
+        second.extend((0..TURN).map(|_| once(fresh, &mut work, &plain)));
+    }
+    Row { name, library: median(first), plain: median(second) }
+}

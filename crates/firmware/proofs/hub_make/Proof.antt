@@ -1,0 +1,29 @@
+-- The call's contract, packed. Assumes nothing.
+use mathlib.Core.Path.{_≡_, refl, sym, ap, _∙_}
+use Rattle.firmware.specs.Packing.{packed, values, refusalOf, bare, single, counts, verdicts, verdictCode, screens, rows, rowBy}
+use borrow.Author.Needs.{needs}
+use Rattle.firmware.proofs.hub_make.Statement.{statement}
+use Rattle.firmware.proofs.hub_make.Tie as tie
+use Rattle.firmware.proofs.hub_make.Reads as reads
+use Rattle.firmware.proofs.hub_make.Lts as lts
+use Rattle.analysis.proofs.make.Reads as make-reads
+use Rattle.firmware.proofs.made.Reads as made-reads
+
+-- src/lib.rt:214:10
+make-requires : tie.Need-make-requires
+make-requires c κs = search needs
+
+-- src/lib.rt:214:5
+made-requires : tie.Need-made-requires
+made-requires c κs = search needs
+
+-- src/lib.rt:209:1
+same-length : tie.Need-same-length
+same-length c = search needs
+
+-- src/lib.rt:209:1
+returns : tie.Need-returns
+returns c = (c .made .ensures ∙ ap (packed single) (c .before .before .before .make .ensures .0), c .before .before .before .make .ensures .1)
+
+pub hub-make-spec : {M : Type 1} → statement M
+hub-make-spec = tie.close (tie.spec make-requires made-requires same-length returns)

@@ -1,0 +1,34 @@
+-- The call's contract, packed. Assumes nothing.
+use mathlib.Core.Path.{_≡_, refl, sym, ap, _∙_}
+use Rattle.firmware.specs.Packing.{packed, values, refusalOf, bare, single, counts, verdicts, verdictCode, screens, rows, rowBy}
+use borrow.Author.Needs.{needs}
+use Rattle.firmware.proofs.hub_screen.Statement.{statement}
+use Rattle.firmware.proofs.hub_screen.Tie as tie
+use Rattle.firmware.proofs.hub_screen.Reads as reads
+use Rattle.firmware.proofs.hub_screen.Lts as lts
+use Rattle.firmware.proofs.screened.Reads as screened-reads
+use Rattle.screen.proofs.screen.Reads as screen-reads
+
+-- src/lib.rt:246:14
+screen-requires : tie.Need-screen-requires
+screen-requires c κs = search needs
+
+-- src/lib.rt:246:5
+screened-requires : tie.Need-screened-requires
+screened-requires c κs = search needs
+
+-- src/lib.rt:240:1
+same-length : tie.Need-same-length
+same-length c = search needs
+
+-- src/lib.rt:240:1
+same-length-2 : tie.Need-same-length-2
+same-length-2 c = search needs
+
+-- src/lib.rt:240:1
+returns : tie.Need-returns
+returns c = (c .screened .ensures ∙ ap (packed screens) (c .before .before .before .before .before .screen .ensures .0), c .before .before .before .before .before .screen .ensures .1, c .before .before .before .before .before .screen .ensures .2)
+
+pub hub-screen-spec : {M : Type 1} → statement M
+hub-screen-spec =
+    tie.close (tie.spec screen-requires screened-requires same-length same-length-2 returns)

@@ -1,0 +1,42 @@
+-- By the answer's case. Assumes nothing.
+use mathlib.Core.Path.{_≡_, refl, sym, ap, _∙_}
+use Rattle.firmware.specs.Packing.{packed, values, refusalOf, bare, single, counts, verdicts, verdictCode, screens, rows, rowBy}
+use Rattle.model.specs.Numbers.{performedAs, validatedAs, containedAs, madeAs, judgedAs, ranAs, screenedAs, refusal}
+use borrow.Author.Needs.{needs}
+use Rattle.firmware.proofs.made.Statement.{statement}
+use Rattle.firmware.proofs.made.Tie as tie
+use Rattle.firmware.proofs.made.Reads as reads
+use Rattle.firmware.proofs.made.Lts as lts
+use Rattle.firmware.proofs.done.Reads as done-reads
+use Rattle.firmware.proofs.refused.Reads as refused-reads
+
+-- src/lib.rt:100:20
+enum-known-x : tie.Need-enum-known-x
+enum-known-x c = search needs
+
+-- src/lib.rt:100:26
+done-requires : tie.Need-done-requires
+done-requires c κs = search needs
+
+-- src/lib.rt:101:23
+enum-known-x-2 : tie.Need-enum-known-x-2
+enum-known-x-2 c = search needs
+
+-- src/lib.rt:101:29
+refused-requires : tie.Need-refused-requires
+refused-requires c κs = search needs
+
+-- src/lib.rt:96:1
+returns : tie.Need-returns
+unfolding packed madeAs single
+returns c = c .done .ensures ∙ sym (ap (λ y. packed single (madeAs y)) (c .before .before .x .given .1))
+
+-- src/lib.rt:96:1
+returns-2 : tie.Need-returns-2
+unfolding packed madeAs refusal
+returns-2 c = c .refused .ensures ∙ sym (ap (λ y. packed single (madeAs y)) (c .before .before .x2 .given .1))
+
+pub made-spec : {M : Type 1} → statement M
+made-spec =
+    tie.close
+    (tie.spec enum-known-x done-requires enum-known-x-2 refused-requires returns returns-2)
