@@ -1,5 +1,6 @@
 //! The inputs of the rows.
 
+use crate::timing::TURN;
 use birnsket::TABLE_LENGTH;
 use simulator::generate::policies;
 use simulator::generate::trees::{chain, tree, Links, Mix};
@@ -30,7 +31,7 @@ impl Lent {
         Lent { itinerary, policy, table, script: vec![], answers: vec![], sheet, number: 0, partner: 0 }
     }
 
-    pub fn about(mut self, number: u16, partner: u16) -> Lent {
+    fn about(mut self, number: u16, partner: u16) -> Lent {
         (self.number, self.partner) = (number, partner);
         self
     }
@@ -60,7 +61,7 @@ pub fn in_order() -> Lent {
 
 /// The same with each the parent of the one before it: the first climb is the deepest.
 pub fn reversed() -> Lent {
-    Lent::of(&chain(MOST_RECORDS, Links::Ambients, true))
+    Lent::of(&chain(MOST_RECORDS, Links::Ambients, true)).about(1, 1)
 }
 
 fn wide() -> Mix {
@@ -77,20 +78,26 @@ fn wide() -> Mix {
     }
 }
 
+/// Several of one kind, so that the processor can't learn one by heart.
+fn several(seed: u64, mix: &Mix) -> Vec<Lent> {
+    let mut random = Random::new(seed);
+    (0..TURN).map(|_| Lent::of(&tree(&mut random, mix)).about(500, 1)).collect()
+}
+
 /// Every label, order and name, at random.
-pub fn random() -> Lent {
-    Lent::of(&tree(&mut Random::new(1), &wide()))
+pub fn random() -> Vec<Lent> {
+    several(1, &wide())
 }
 
 /// Few names, so that nearly every ambient can go nearly anywhere.
-pub fn dense() -> Lent {
-    Lent::of(&tree(&mut Random::new(2), &Mix { names: 2, ..wide() }))
+pub fn dense() -> Vec<Lent> {
+    several(2, &Mix { names: 2, ..wide() })
 }
 
 /// An ambient and 1,023 capabilities, each behind the other: every container is a
 /// long way up.
 pub fn deep() -> Lent {
-    Lent::of(&chain(MOST_RECORDS, Links::Capabilities, false))
+    Lent::of(&chain(MOST_RECORDS, Links::Capabilities, false)).about(1024, 1)
 }
 
 const ROOMS: usize = 31;
@@ -106,8 +113,8 @@ pub fn relay() -> Lent {
     for label in (1..=ROOMS).rev() {
         records.push(ambient(label, room, records.len()));
     }
-    records.push(order(Kind::Open, 64, mover, ROOMS));
-    records.push(order(Kind::Open, 65, opened, 0));
+    records.push(order(Kind::Open, 66, mover, ROOMS));
+    records.push(order(Kind::Open, 67, opened, 0));
     let mut parent = 0;
     for stage in 0..MOVERS {
         records.push(ambient(ROOMS + 1 + stage, mover, parent));
@@ -115,11 +122,11 @@ pub fn relay() -> Lent {
         records.push(order(Kind::In, 64, room, at));
         records.push(ambient(ROOMS + MOVERS + 1 + stage, opened, at));
         parent = records.len();
-        records.push(order(Kind::Out, 64, room, parent));
+        records.push(order(Kind::Out, 65, room, parent));
     }
     while records.len() < MOST_RECORDS {
-        let label = 65 + records.len() % 63;
-        records.push(order(Kind::ALL[2 + records.len() % 2], label, room, 0));
+        let place = records.len();
+        records.push(order(Kind::ALL[2 + place % 2], 68 + place / 2 % 60, room, 0));
     }
     Lent::of(&Itinerary { records })
 }
@@ -130,7 +137,7 @@ pub fn to_and_fro() -> Lent {
     for place in 0..1022 {
         records.push(order(Kind::ALL[2 + place % 2], 64 + place % 64, 1, 1));
     }
-    Lent::of(&Itinerary { records }).with_script((3..=1024).map(|actor| (actor, 2)))
+    Lent::of(&Itinerary { records }).about(3, 2).with_script((3..=1024).map(|actor| (actor, 2)))
 }
 
 /// 511 opens inside an ambient.
@@ -140,11 +147,18 @@ pub fn opens() -> Lent {
         records.push(ambient(1 + place % 63, 1, 1));
         records.push(order(Kind::Open, 64 + place % 64, 1, 1));
     }
-    Lent::of(&Itinerary { records }).with_script((1..=511).map(|step| (2 * step + 1, 2 * step)))
+    let steps = (1..=511).map(|step| (2 * step + 1, 2 * step));
+    Lent::of(&Itinerary { records }).about(3, 2).with_script(steps)
 }
 
 /// 1,024 steps of the capability below 1,023 ambients, each with a wrong partner.
 pub fn refused() -> Lent {
     let itinerary = chain(MOST_RECORDS, Links::LastActs(Kind::Open), false);
-    Lent::of(&itinerary).with_script((0..1024).map(|_| (1024, 1)))
+    Lent::of(&itinerary).about(1024, 1).with_script((0..1024).map(|_| (1024, 1)))
+}
+
+/// One of each kind for tables.
+pub fn for_tables() -> [(&'static str, Lent); 4] {
+    let first = |several: Vec<Lent>| several[0].clone();
+    [("random", first(random())), ("dense", first(dense())), ("deep", deep()), ("relay", relay())]
 }

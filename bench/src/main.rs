@@ -1,6 +1,7 @@
 //! Times the library beside the same algorithms in plain Rust, measures its stack,
 //! and compares its least tables with clingo's.
 
+mod clock;
 mod inputs;
 mod oracle;
 mod plain;

@@ -84,8 +84,7 @@ fn compare_all(seed: u64, count: usize) -> io::Result<()> {
     }
     println!("clingo and the maker give the same table for {count} random itineraries.\n");
     println!("| least table of | library | clingo |\n|---|---:|---:|");
-    let full = [("random", inputs::random()), ("dense", inputs::dense()), ("deep", inputs::deep())];
-    for (name, lent) in full.into_iter().chain([("relay", inputs::relay())]) {
+    for (name, lent) in inputs::for_tables() {
         let (fast, slow) = compare(&lent.itinerary, &lent.policy)?;
         let (fast, slow) = (fast.as_secs_f64() * 1e3, slow.as_secs_f64() * 1e3);
         println!("| {name} | {fast:.3} ms | {slow:.1} ms |");

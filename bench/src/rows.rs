@@ -4,11 +4,11 @@ use crate::inputs::{self, Lent};
 use crate::plain;
 use crate::timing::{row, Row};
 
-fn validate(name: &'static str, lent: &Lent) -> Row {
+fn validate(name: &'static str, lent: &[Lent]) -> Row {
     row(name, lent, |l| birnsket::validate(&l.itinerary), |l| plain::validate(&l.itinerary))
 }
 
-fn container(name: &'static str, lent: &Lent) -> Row {
+fn container(name: &'static str, lent: &[Lent]) -> Row {
     row(
         name,
         lent,
@@ -17,7 +17,7 @@ fn container(name: &'static str, lent: &Lent) -> Row {
     )
 }
 
-fn sheet(name: &'static str, lent: &Lent) -> Row {
+fn sheet(name: &'static str, lent: &[Lent]) -> Row {
     row(
         name,
         lent,
@@ -26,7 +26,7 @@ fn sheet(name: &'static str, lent: &Lent) -> Row {
     )
 }
 
-fn step(name: &'static str, lent: &Lent) -> Row {
+fn step(name: &'static str, lent: &[Lent]) -> Row {
     row(
         name,
         lent,
@@ -35,7 +35,7 @@ fn step(name: &'static str, lent: &Lent) -> Row {
     )
 }
 
-fn run(name: &'static str, lent: &Lent) -> Row {
+fn run(name: &'static str, lent: &[Lent]) -> Row {
     row(
         name,
         lent,
@@ -44,7 +44,7 @@ fn run(name: &'static str, lent: &Lent) -> Row {
     )
 }
 
-fn check(name: &'static str, lent: &Lent) -> Row {
+fn check(name: &'static str, lent: &[Lent]) -> Row {
     row(
         name,
         lent,
@@ -53,7 +53,7 @@ fn check(name: &'static str, lent: &Lent) -> Row {
     )
 }
 
-fn make(name: &'static str, lent: &Lent) -> Row {
+fn make(name: &'static str, lent: &[Lent]) -> Row {
     row(
         name,
         lent,
@@ -62,7 +62,7 @@ fn make(name: &'static str, lent: &Lent) -> Row {
     )
 }
 
-fn verdict(name: &'static str, lent: &Lent) -> Row {
+fn verdict(name: &'static str, lent: &[Lent]) -> Row {
     row(
         name,
         lent,
@@ -72,29 +72,29 @@ fn verdict(name: &'static str, lent: &Lent) -> Row {
 }
 
 fn itinerary_rows() -> Vec<Row> {
-    let (in_order, reversed) = (inputs::in_order(), inputs::reversed());
-    let (random, deep) = (inputs::random(), inputs::deep());
-    let to_and_fro = inputs::to_and_fro();
+    let (in_order, reversed) = ([inputs::in_order()], [inputs::reversed()]);
+    let random = inputs::random();
+    let (to_and_fro, opens) = (inputs::to_and_fro(), inputs::opens());
     vec![
         validate("validate, chain in file order", &in_order),
         validate("validate, chain reversed", &reversed),
         validate("validate, random", &random),
-        container("container, random", &random.clone().about(500, 0)),
-        container("container, 1,022 capabilities up", &deep.clone().about(1024, 0)),
+        container("container, random", &random),
+        container("container, 1,022 capabilities up", &[inputs::deep()]),
         sheet("sheet, chain in file order", &in_order),
         sheet("sheet, chain reversed", &reversed),
         sheet("sheet, random", &random),
-        step("step, in", &to_and_fro.clone().about(3, 2)),
-        step("step, open", &inputs::opens().about(3, 2)),
-        run("run, 1,022 ins and outs", &to_and_fro),
-        run("run, 511 opens", &inputs::opens()),
-        run("run, 1,024 refused at depth 1,023", &inputs::refused()),
+        step("step, in", &[to_and_fro.clone()]),
+        step("step, open", &[opens.clone()]),
+        run("run, 1,022 ins and outs", &[to_and_fro]),
+        run("run, 511 opens", &[opens]),
+        run("run, 1,024 refused at depth 1,023", &[inputs::refused()]),
     ]
 }
 
 fn table_rows() -> Vec<Row> {
     let (random, dense) = (inputs::random(), inputs::dense());
-    let (deep, relay) = (inputs::deep(), inputs::relay());
+    let (deep, relay) = ([inputs::deep()], [inputs::relay()]);
     vec![
         check("check, random", &random),
         check("check, dense", &dense),
@@ -117,9 +117,7 @@ pub fn print() {
         let (library, plain) = (row.library / 1000.0, row.plain / 1000.0);
         println!("| {} | {library:.2} µs | {plain:.2} µs | {:.2} |", row.name, row.ratio());
     }
-    for (name, lent) in
-        [("random", inputs::random()), ("dense", inputs::dense()), ("deep", inputs::deep()), ("relay", inputs::relay())]
-    {
+    for (name, lent) in inputs::for_tables() {
         println!("The maker's passes, {name}: {}.", plain::passes(&lent.itinerary, &lent.policy));
     }
 }

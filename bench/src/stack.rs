@@ -28,39 +28,37 @@ fn lowest(top: usize) -> usize {
 }
 
 /// Bytes of stack that the call takes, to within a few hundred.
-fn depth(lent: &Lent, call: fn(&mut Lent)) -> usize {
+fn depth(lent: &Lent, call: fn(&mut Lent) -> bool) -> usize {
     let mut lent = lent.clone();
     let measure = move || {
         let here = black_box(0u8);
         let top = &raw const here as usize;
         paint(top);
-        call(black_box(&mut lent));
+        black_box(call(black_box(&mut lent)));
         lowest(top)
     };
     let thread = thread::Builder::new().stack_size(STACK).spawn(measure);
     thread.ok().and_then(|thread| thread.join().ok()).unwrap_or(0)
 }
 
-type Measured = (&'static str, fn(&mut Lent));
+type Measured = (&'static str, fn(&mut Lent) -> bool);
 
 const CALLS: [Measured; 10] = [
-    ("validate", |l| drop(black_box(birnsket::validate(&l.itinerary)))),
-    ("container", |l| drop(black_box(birnsket::container(&l.itinerary, 1)))),
-    ("sheet", |l| drop(black_box(birnsket::sheet(&l.itinerary, &l.table, &mut l.sheet)))),
-    ("step", |l| drop(black_box(birnsket::step(&mut l.itinerary, l.number, 1)))),
-    ("run", |l| drop(black_box(birnsket::run(&mut l.itinerary, &l.script, &mut l.answers)))),
-    ("check", |l| drop(black_box(birnsket::check(&l.itinerary, &l.policy, &l.table)))),
-    ("make", |l| drop(black_box(birnsket::make(&l.itinerary, &l.policy, &mut l.table)))),
-    ("verdict", |l| drop(black_box(birnsket::verdict(&l.itinerary, &l.policy, &l.table)))),
-    ("row", |l| drop(black_box(birnsket::row(&l.table, 1).len()))),
-    ("screen", |l| {
-        drop(black_box(birnsket::screen(&mut l.itinerary, &l.policy, &l.script, &mut l.answers)))
-    }),
+    ("validate", |l| birnsket::validate(&l.itinerary).is_ok()),
+    ("container", |l| birnsket::container(&l.itinerary, l.number).is_ok()),
+    ("sheet", |l| birnsket::sheet(&l.itinerary, &l.table, &mut l.sheet).is_ok()),
+    ("step", |l| birnsket::step(&mut l.itinerary, l.number, l.partner).is_ok()),
+    ("run", |l| birnsket::run(&mut l.itinerary, &l.script, &mut l.answers).is_ok()),
+    ("check", |l| birnsket::check(&l.itinerary, &l.policy, &l.table).is_ok()),
+    ("make", |l| birnsket::make(&l.itinerary, &l.policy, &mut l.table).is_ok()),
+    ("verdict", |l| birnsket::verdict(&l.itinerary, &l.policy, &l.table).is_ok()),
+    ("row", |l| birnsket::row(&l.table, 1).is_empty()),
+    ("screen", |l| birnsket::screen(&mut l.itinerary, &l.policy, &l.script, &mut l.answers).is_ok()),
 ];
 
 /// Prints the deepest of each call on chains of 1,024 records.
 pub fn print() {
-    let inputs = [inputs::reversed().about(1, 1), inputs::refused().about(1024, 1), inputs::deep()];
+    let inputs = [inputs::reversed(), inputs::refused(), inputs::deep()];
     println!("| call | stack |\n|---|---:|");
     for (name, call) in CALLS {
         let deepest = inputs.iter().map(|lent| depth(lent, call)).max().unwrap_or(0);

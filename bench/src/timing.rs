@@ -1,11 +1,13 @@
-//! Medians of many repetitions, both sides in turns.
+//! Medians of many repetitions, both sides in turns, in processor time.
 
+use crate::clock;
 use crate::inputs::Lent;
 use std::fmt::Debug;
 use std::hint::black_box;
 use std::time::{Duration, Instant};
 
-const TURN: usize = 8;
+/// Calls of one side before the other's.
+pub const TURN: usize = 8;
 const LEAST: usize = 24;
 const MOST: usize = 4000;
 const TIME: Duration = Duration::from_millis(800);
@@ -27,9 +29,18 @@ impl Row {
 fn once<R>(fresh: &Lent, work: &mut Lent, call: &impl Fn(&mut Lent) -> R) -> u64 {
     work.clone_from(fresh);
     let work = black_box(work);
-    let start = Instant::now();
+    let start = clock::now();
     black_box(call(work));
-    start.elapsed().as_nanos() as u64
+    clock::now() - start
+}
+
+/// What reading the clock adds to a time.
+fn overhead() -> f64 {
+    let read = |_| {
+        let start = clock::now();
+        clock::now() - start
+    };
+    median((0..1000).map(read).collect())
 }
 
 fn median(mut times: Vec<u64>) -> f64 {
@@ -38,21 +49,27 @@ fn median(mut times: Vec<u64>) -> f64 {
     (times[middle - 1] + times[middle]) as f64 / 2.0
 }
 
-/// Times both calls after seeing that they give the same answer and buffers.
+/// Times both calls on the inputs in turns, after seeing that they give the same
+/// answers and buffers.
 pub fn row<R: PartialEq + Debug>(
     name: &'static str,
-    fresh: &Lent,
+    inputs: &[Lent],
     library: impl Fn(&mut Lent) -> R,
     plain: impl Fn(&mut Lent) -> R,
 ) -> Row {
-    let (mut work, mut other) = (fresh.clone(), fresh.clone());
-    assert_eq!(library(&mut work), plain(&mut other), "{name}: answers");
-    assert!(work == other, "{name}: buffers");
+    for fresh in inputs {
+        let (mut work, mut other) = (fresh.clone(), fresh.clone());
+        assert_eq!(library(&mut work), plain(&mut other), "{name}: answers");
+        assert!(work == other, "{name}: buffers");
+    }
+    let mut work = inputs[0].clone();
+    let turn = || inputs.iter().cycle().take(TURN);
     let (mut first, mut second) = (Vec::new(), Vec::new());
     let start = Instant::now();
     while first.len() < LEAST || (first.len() < MOST && start.elapsed() < TIME) {
-        first.extend((0..TURN).map(|_| once(fresh, &mut work, &library)));
-        second.extend((0..TURN).map(|_| once(fresh, &mut work, &plain)));
+        first.extend(turn().map(|fresh| once(fresh, &mut work, &library)));
+        second.extend(turn().map(|fresh| once(fresh, &mut work, &plain)));
     }
-    Row { name, library: median(first), plain: median(second) }
+    let overhead = overhead();
+    Row { name, library: median(first) - overhead, plain: median(second) - overhead }
 }

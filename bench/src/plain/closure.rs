@@ -79,20 +79,42 @@ impl Table {
         }
     }
 
-    /// All rules once.
-    pub fn pass(&mut self, partners: &Partners) {
-        for (kind, orders) in partners.iter().enumerate() {
+    /// The rules of the first `kinds` kinds once.
+    fn pass(&mut self, partners: &Partners, kinds: usize) {
+        for (kind, orders) in partners.iter().enumerate().take(kinds) {
             for (order, &word) in orders.iter().enumerate() {
                 self.grow(kind, order, word);
             }
         }
     }
 
+    /// Whether the rules of in and out add nothing.
+    pub fn moves_hold(&self, partners: &Partners) -> bool {
+        let mut grown = self.clone();
+        grown.pass(partners, 2);
+        grown.count() == self.count()
+    }
+
+    /// Whether row b lies inside row p, and p is suspect if b is.
+    fn may_open(&self, p: usize, b: usize) -> bool {
+        self.ambients[b] & !self.ambients[p] == 0
+            && self.orders[b] & !self.orders[p] == 0
+            && (!has(self.suspects, b) || has(self.suspects, p))
+    }
+
+    /// Whether the rules of open hold.
+    pub fn opens_hold(&self, partners: &Partners) -> bool {
+        (0..64).all(|p| {
+            let opened = labels(self.orders[p]).fold(0, |found, order| found | partners[2][order]);
+            labels(self.ambients[p] & opened).all(|b| self.may_open(p, b))
+        })
+    }
+
     /// Grows to the least table that is closed; how many passes it took.
     pub fn close(&mut self, partners: &Partners) -> usize {
         let mut before = self.count();
         for passes in 1.. {
-            self.pass(partners);
+            self.pass(partners, 3);
             let after = self.count();
             if after == before {
                 return passes;

@@ -86,7 +86,8 @@ impl Table {
     /// Whether all records may stand where they stand and bear their names.
     fn nests(&self, itinerary: &[u8]) -> bool {
         records(itinerary).filter(|record| record.kind != 0).all(|record| {
-            let named = record.kind != AMBIENT || self.names[usize::from(record.label)] >> record.name & 1 == 1;
+            let named =
+                record.kind != AMBIENT || self.names[usize::from(record.label)] >> record.name & 1 == 1;
             named && self.has(nearest(itinerary, record.parent), record.label)
         })
     }
@@ -95,9 +96,8 @@ impl Table {
         if highs(policy) & !self.suspects != 0 || !self.nests(itinerary) {
             return false;
         }
-        let mut grown = self.clone();
-        grown.pass(&self.partners(itinerary));
-        grown == *self
+        let partners = self.partners(itinerary);
+        self.opens_hold(&partners) && self.moves_hold(&partners)
     }
 }
 
