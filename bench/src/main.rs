@@ -2,6 +2,7 @@
 //! and compares its least tables with clingo's.
 
 mod clock;
+mod figures;
 mod inputs;
 mod oracle;
 mod plain;

@@ -1,5 +1,6 @@
 //! Compares the maker with the least model that clingo finds by rules.lp.
 
+use crate::figures::short;
 use crate::inputs;
 use birnsket::TABLE_LENGTH;
 use simulator::generate::policies;
@@ -86,8 +87,8 @@ fn compare_all(seed: u64, count: usize) -> io::Result<()> {
     println!("| least table of | library | clingo |\n|---|---:|---:|");
     for (name, lent) in inputs::for_tables() {
         let (fast, slow) = compare(&lent.itinerary, &lent.policy)?;
-        let (fast, slow) = (fast.as_secs_f64() * 1e3, slow.as_secs_f64() * 1e3);
-        println!("| {name} | {fast:.3} ms | {slow:.1} ms |");
+        let (fast, slow) = (short(fast.as_secs_f64() * 1e3), short(slow.as_secs_f64() * 1e3));
+        println!("| {name} | {fast} ms | {slow} ms |");
     }
     Ok(())
 }

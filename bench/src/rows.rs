@@ -1,8 +1,10 @@
 //! The rows of the table.
 
+use crate::figures::short;
 use crate::inputs::{self, Lent};
 use crate::plain;
 use crate::timing::{row, Row};
+use std::slice::from_ref;
 
 fn validate(name: &'static str, lent: &[Lent]) -> Row {
     row(name, lent, |l| birnsket::validate(&l.itinerary), |l| plain::validate(&l.itinerary))
@@ -84,10 +86,10 @@ fn itinerary_rows() -> Vec<Row> {
         sheet("sheet, chain in file order", &in_order),
         sheet("sheet, chain reversed", &reversed),
         sheet("sheet, random", &random),
-        step("step, in", &[to_and_fro.clone()]),
-        step("step, open", &[opens.clone()]),
-        run("run, 1,022 ins and outs", &[to_and_fro]),
-        run("run, 511 opens", &[opens]),
+        step("step, in", from_ref(&to_and_fro)),
+        step("step, open", from_ref(&opens)),
+        run("run, 1,022 ins and outs", from_ref(&to_and_fro)),
+        run("run, 511 opens", from_ref(&opens)),
         run("run, 1,024 refused at depth 1,023", &[inputs::refused()]),
     ]
 }
@@ -114,8 +116,8 @@ fn table_rows() -> Vec<Row> {
 pub fn print() {
     println!("| call and input | library | Rust | ratio |\n|---|---:|---:|---:|");
     for row in itinerary_rows().into_iter().chain(table_rows()) {
-        let (library, plain) = (row.library / 1000.0, row.plain / 1000.0);
-        println!("| {} | {library:.2} µs | {plain:.2} µs | {:.2} |", row.name, row.ratio());
+        let (library, plain) = (short(row.library / 1000.0), short(row.plain / 1000.0));
+        println!("| {} | {library} µs | {plain} µs | {:.2} |", row.name, row.ratio());
     }
     for (name, lent) in inputs::for_tables() {
         println!("The maker's passes, {name}: {}.", plain::passes(&lent.itinerary, &lent.policy));

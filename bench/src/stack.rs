@@ -1,6 +1,7 @@
 //! How deep the calls go into the stack: a thread's stack is painted, a call is
 //! made, and the lowest byte that lost its paint is looked for.
 
+use crate::figures::grouped;
 use crate::inputs::{self, Lent};
 use std::hint::black_box;
 use std::thread;
@@ -62,6 +63,6 @@ pub fn print() {
     println!("| call | stack |\n|---|---:|");
     for (name, call) in CALLS {
         let deepest = inputs.iter().map(|lent| depth(lent, call)).max().unwrap_or(0);
-        println!("| {name} | {deepest} bytes |");
+        println!("| {name} | {} bytes |", grouped(deepest as u64));
     }
 }

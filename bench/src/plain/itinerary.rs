@@ -86,7 +86,7 @@ fn climb(itinerary: &[u8], known: &mut [bool; 1025], number: u16) -> bool {
 
 /// The number of records, or the first of refusals 1 to 6.
 pub fn validate(itinerary: &[u8]) -> Result<u16, Refusal> {
-    if itinerary.len() % RECORD != 0 || itinerary.len() > 8192 {
+    if !itinerary.len().is_multiple_of(RECORD) || itinerary.len() > 8192 {
         return refuse(1);
     }
     for (place, bytes) in itinerary.chunks_exact(RECORD).enumerate() {

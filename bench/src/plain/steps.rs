@@ -87,7 +87,7 @@ pub fn step(itinerary: &mut [u8], actor: u16, partner: u16) -> Result<(), Refusa
 
 pub fn run(itinerary: &mut [u8], script: &[u8], answers: &mut [u8]) -> Result<Counts, Refusal> {
     validate(itinerary)?;
-    if script.len() % 4 != 0 || script.len() > 4096 || answers.len() != script.len() / 4 {
+    if !script.len().is_multiple_of(4) || script.len() > 4096 || answers.len() != script.len() / 4 {
         return refuse(13);
     }
     let mut counts = Counts::default();

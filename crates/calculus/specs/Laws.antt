@@ -14,6 +14,7 @@ use Rattle.model.specs.Analysis.{free}
 use Rattle.model.specs.Calls.{metCheck, stepAnswer, stepping}
 use Rattle.model.specs.Climbing.{ambients}
 use Rattle.model.specs.Finite.{digit}
+use Rattle.model.specs.Laws.Updates.{dissolved-moved, dissolved-self, dissolved-stays, placed-other}
 use Rattle.model.specs.Laws.Bytes.{at-whole, valid-wf}
 use Rattle.model.specs.Laws.Done.{Done, cap-pos, done-other, in-live, open-beside, out-live, outcome-done, partner-pos}
 use Rattle.model.specs.Laws.WellFormed.{WellFormed, dissolve-parent-stays, parent-not-self, place-parent-other}
@@ -152,28 +153,6 @@ module _ (f g : ℕ → Rec → Rec) where
   unfolding updateFrom
   from-same n h [] = refl
   from-same n h (r ∷ rs) = ap (λ x. x ∷ updateFrom f (suc n) rs) (h n (omega arith) r) ∙ ap (λ l. g n r ∷ l) (from-same (suc n) (λ i l. h i (omega arith)) rs)
-
-module _ (x q i : ℕ) (r : Rec) where
-  pub dissolved-self : i ≡ x → dissolved x q i r ≡ gone
-  unfolding dissolved
-  dissolved-self e = rw (eq-eqb i x e, dissolved)
-
-  pub dissolved-moved : i ≢ x → r .parent ≡ x → dissolved x q i r ≡ to q r
-  unfolding dissolved
-  dissolved-moved h e = rw (ne-eqb i x h, dissolved) (rw (eq-eqb (r .parent) x e))
-
-  pub dissolved-stays : i ≢ x → r .parent ≢ x → dissolved x q i r ≡ r
-  unfolding dissolved
-  dissolved-stays h e = rw (ne-eqb i x h, dissolved) (rw (ne-eqb (r .parent) x e))
-
-module _ (a t i : ℕ) (r : Rec) where
-  pub placed-self : i ≡ a → placed a t i r ≡ to t r
-  unfolding placed
-  placed-self e = rw (eq-eqb i a e, placed)
-
-  pub placed-other : i ≢ a → placed a t i r ≡ r
-  unfolding placed
-  placed-other e = rw (ne-eqb i a e, placed)
 
 -- taken out twice is taken out once
 dissolved-twice : (x q i : ℕ) (r : Rec) → q ≢ x → dissolved x q i (dissolved x q i r) ≡ dissolved x q i r

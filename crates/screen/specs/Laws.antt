@@ -1,4 +1,5 @@
 -- The screen is the maker, the verdict of the made table and the script run, with the refusals of all of them in order.
+use Rattle.itinerary.specs.Laws.{answer-refused}
 use Prim.Native.Nat.{_%_, _+_, _/_, _≤_, suc, ℕ}
 use borrow.Author.Tests.{eq-eqb, eqb-true}
 use lib.Count.{ones}
@@ -50,11 +51,6 @@ module _ (s policy z answers table : List ℕ) (size : length table ≡ 1544) wh
   unfolding screening running
   screening-is = checks (validity s) (need (policyRight policy) 7 0) (need (scriptRight z (length answers)) 13 0) ∙ ap (λ c. andThen c (running s z answers)) (sym making-is)
 
-  answer-refused : {A : Type 0} (c : Check) (x : A) (n r : ℕ) → answer c x ≡ refused n r → c ≡ refuse n r
-  unfolding answer
-  answer-refused pass x n r h = let u : _≡_ {A = ℕ} 0 1 = cc in absurd (omega arith)
-  answer-refused (refuse m q) x n r h = cc
-
   -- the screen refuses: what it returns, and what it leaves
   pub record Refuses (n r : ℕ) : Type 0 where
     pub returned : screenAnswer s policy z answers ≡ refused n r
@@ -68,7 +64,7 @@ module _ (s policy z answers table : List ℕ) (size : length table ≡ 1544) wh
   -- as the maker refuses
   pub make-refuses : (n r : ℕ) → makeAnswer s policy table ≡ refused n r → Refuses n r
   unfolding makeAnswer andThen
-  make-refuses n r h = refuses n r (screening-is ∙ ap (λ c. andThen c (running s z answers)) (answer-refused (making s policy table) _ n r h))
+  make-refuses n r h = refuses n r (screening-is ∙ ap (λ c. andThen c (running s z answers)) (answer-refused (making s policy table) _ h))
 
   module _ (m : ℕ) (made : makeAnswer s policy table ≡ done m) where
     passes : making s policy table ≡ pass
@@ -82,7 +78,7 @@ module _ (s policy z answers table : List ℕ) (size : length table ≡ 1544) wh
     -- as the run refuses
     pub run-refuses : (n r : ℕ) → runAnswer s z answers ≡ refused n r → Refuses n r
     unfolding runAnswer
-    run-refuses n r h = refuses n r (screening-run ∙ answer-refused (running s z answers) _ n r h)
+    run-refuses n r h = refuses n r (screening-run ∙ answer-refused (running s z answers) _ h)
 
     -- what the run leaves, the screen leaves
     pub run-leaves : (screenAfter s policy z answers ≡ runAfter s z answers) × (screenAnswers s policy z answers ≡ runAnswers s z answers)

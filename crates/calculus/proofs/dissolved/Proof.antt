@@ -1,6 +1,6 @@
 -- `calculus::dissolved` meets its contract.
 use mathlib.Core.Path.{sym}
-use Rattle.calculus.specs.Laws.{dissolved-moved, dissolved-self, dissolved-stays}
+use Rattle.model.specs.Laws.Updates.{dissolved-moved, dissolved-self, dissolved-stays}
 use Rattle.calculus.proofs.dissolved.Statement.{statement}
 use Rattle.calculus.proofs.dissolved.Tie as tie
 

@@ -1,6 +1,6 @@
 -- `calculus::placed` meets its contract.
 use mathlib.Core.Path.{sym}
-use Rattle.calculus.specs.Laws.{placed-other, placed-self}
+use Rattle.model.specs.Laws.Updates.{placed-other, placed-self}
 use Rattle.calculus.proofs.placed.Statement.{statement}
 use Rattle.calculus.proofs.placed.Tie as tie
 

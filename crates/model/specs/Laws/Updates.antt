@@ -52,15 +52,15 @@ module _ (f : ℕ → Rec → Rec) where
       go (no h) = at-over (update f its) i (omega (arith, length-update its)) ∙ sym (rw (at-over its i (omega arith)) g)
 
 module _ (x q i : ℕ) (r : Rec) where
-  dissolved-self : i ≡ x → dissolved x q i r ≡ gone
+  pub dissolved-self : i ≡ x → dissolved x q i r ≡ gone
   unfolding dissolved
   dissolved-self e = rw (eq-eqb i x e, dissolved)
 
-  dissolved-moved : i ≢ x → r .parent ≡ x → dissolved x q i r ≡ to q r
+  pub dissolved-moved : i ≢ x → r .parent ≡ x → dissolved x q i r ≡ to q r
   unfolding dissolved
   dissolved-moved h e = rw (ne-eqb i x h, dissolved) (rw (eq-eqb (r .parent) x e))
 
-  dissolved-stays : i ≢ x → r .parent ≢ x → dissolved x q i r ≡ r
+  pub dissolved-stays : i ≢ x → r .parent ≢ x → dissolved x q i r ≡ r
   unfolding dissolved
   dissolved-stays h e = rw (ne-eqb i x h, dissolved) (rw (ne-eqb (r .parent) x e))
 
@@ -94,11 +94,11 @@ unfolding dissolve
 dissolve-length x its = length-update _ its
 
 module _ (a t i : ℕ) (r : Rec) where
-  placed-self : i ≡ a → placed a t i r ≡ to t r
+  pub placed-self : i ≡ a → placed a t i r ≡ to t r
   unfolding placed
   placed-self e = rw (eq-eqb i a e, placed)
 
-  placed-other : i ≢ a → placed a t i r ≡ r
+  pub placed-other : i ≢ a → placed a t i r ≡ r
   unfolding placed
   placed-other e = rw (ne-eqb i a e, placed)
 
