@@ -1,6 +1,6 @@
 -- Laws of the decided step: that its one pass is the step of the definitions.
 use Prim.Native.Nat.{_%_, _+_, _≤_, suc, zero, ℕ}
-use borrow.Author.Tests.{eq-eqb, ltb-false, ne-eqb}
+use borrow.Author.Tests.{eq-eqb, eqb-false, ltb-false, ne-eqb}
 use lib.Dec.{eqb, ltb}
 use lib.ListN.{length}
 use mathlib.Core.Bool.{Bool, _&&_, _||_, false, not, true, true≢false}
@@ -24,7 +24,7 @@ use Rattle.model.specs.Steps.{Outcome, answerOf, decide, dissolve, dissolved, f
 use Rattle.model.specs.Validity.{validity}
 use Rattle.model.specs.declared.Counts.{Counts}
 use Rattle.model.specs.declared.Rec.{Rec}
-use Rattle.calculus.specs.Moves.{applied, capabilityBy, capabilityOf, counted, decisionBy, fitBy, moveBy, remade, standsBy}
+use Rattle.calculus.specs.Moves.{applied, capabilityBy, capabilityOf, counted, decisionBy, fitBy, moveBy, remade, standsBy, touchedBy}
 use Rattle.calculus.specs.declared.Decision.{Decision}
 use Rattle.calculus.specs.declared.Decision.the-variants.{Do, Refused}
 use Rattle.calculus.specs.declared.Move.{Move}
@@ -153,6 +153,22 @@ module _ (f g : ℕ → Rec → Rec) where
   unfolding updateFrom
   from-same n h [] = refl
   from-same n h (r ∷ rs) = ap (λ x. x ∷ updateFrom f (suc n) rs) (h n (omega arith) r) ∙ ap (λ l. g n r ∷ l) (from-same (suc n) (λ i l. h i (omega arith)) rs)
+
+or-none : (a b : Bool) → (a || b) ≡ false → (a ≡ false) × (b ≡ false)
+or-none true b h = absurd (true≢false h)
+or-none false b h = (refl, h)
+
+-- a record that a move doesn't touch is left as it is
+pub untouched : (m : Move) (i : ℕ) (r : Rec) → touchedBy m i (r .parent) ≡ false → remade m i r ≡ r
+unfolding touchedBy remade
+untouched m i r h =
+    let a = or-none (eqb i (m .actor)) _ h in
+    let b = or-none (eqb i (m .opened)) _ (a .1) in
+    let c = or-none (eqb i (m .mover)) _ (b .1) in
+    let d = or-none (eqb (r .parent) (m .actor)) _ (c .1) in
+    ap (λ x. dissolved (m .actor) (m .home) i (dissolved (m .opened) (m .home) i x)) (placed-other (m .mover) (m .dest) i r (eqb-false _ _ (c .0)))
+    ∙ ap (dissolved (m .actor) (m .home) i) (dissolved-stays (m .opened) (m .home) i r (eqb-false _ _ (b .0)) (eqb-false _ _ (d .1)))
+    ∙ dissolved-stays (m .actor) (m .home) i r (eqb-false _ _ (a .0)) (eqb-false _ _ (d .0))
 
 -- taken out twice is taken out once
 dissolved-twice : (x q i : ℕ) (r : Rec) → q ≢ x → dissolved x q i (dissolved x q i r) ≡ dissolved x q i r

@@ -1,7 +1,7 @@
 -- A step that is decided, as the code holds it, and what it makes of each record.
 use Prim.Native.Nat.{_+_, ℕ}
 use lib.Dec.{eqb}
-use mathlib.Core.Bool.{Bool, _&&_, false, not, true}
+use mathlib.Core.Bool.{Bool, _&&_, _||_, false, not, true}
 use mathlib.Core.List.{List}
 use Rattle.model.specs.Finite.{digit}
 use Rattle.model.specs.Records.{Capability, cap-in, cap-open, cap-out, isAmbient, parentOf, update}
@@ -43,6 +43,10 @@ decisionBy (met k) its c b = Do (moveBy k c b (parentOf its c) (parentOf its b))
 -- record i after the step
 unfoldable pub remade : Move → ℕ → Rec → Rec
 remade m i r = dissolved (m .actor) (m .home) i (dissolved (m .opened) (m .home) i (placed (m .mover) (m .dest) i r))
+
+-- whether a move changes record i, whose parent is p
+unfoldable pub touchedBy : Move → ℕ → ℕ → Bool
+touchedBy m i p = eqb i (m .actor) || (eqb i (m .opened) || (eqb i (m .mover) || (eqb p (m .actor) || eqb p (m .opened))))
 
 -- the records after the step
 unfoldable pub applied : Move → List Rec → List Rec

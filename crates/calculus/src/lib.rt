@@ -6,10 +6,11 @@ use model::Rec;
 use model::Refusal;
 use model::Validated;
 ghost use mathlib.Core.Path.{_≡_};
-ghost use Prim.Native.Nat.{_%_, _+_, _<_, _≤_};
+ghost use Prim.Native.Nat.{_%_, _*_, _+_, _<_, _≤_};
 ghost use mathlib.Core.Bool.{true};
 ghost use lib.ListN.{length};
-ghost use Rattle.model.specs.Records.{byte, encode, records, word};
+ghost use Rattle.model.specs.Records.{byte, decode, encode, records, word};
+ghost use Rattle.itinerary.specs.Written.{withRecord};
 ghost use Rattle.model.specs.Refusals.{pass};
 ghost use Rattle.model.specs.Validity.{validity};
 ghost use Rattle.model.specs.Analysis.{free};
@@ -18,7 +19,7 @@ ghost use Rattle.model.specs.Scripts.{afterOrders, answersOf, countsOf, orders,
 ghost use Rattle.model.specs.Steps.{answerOf, dissolved, outcome, placed, ready, stepBytes};
 ghost use Rattle.model.specs.Calls.{runAfter, runAnswer, runAnswers, stepAfter, stepAnswer};
 ghost use Rattle.model.specs.Numbers.{performedAs, ranAs};
-ghost use Rattle.calculus.specs.Moves.{applied, capabilityOf, counted, decisionBy, decisionNumber, fitBy, moveBy, remade, standsBy};
+ghost use Rattle.calculus.specs.Moves.{applied, capabilityOf, counted, decisionBy, decisionNumber, fitBy, moveBy, remade, standsBy, touchedBy};
 
 // A step that is decided. The actor goes, and so does opened, which is the actor again where nothing is opened; the
 // children of both go to home; mover, which is 0 where none moves, goes to dest.
@@ -165,16 +166,35 @@ fn remade(m: Move, i: u16, r: Rec) -> Rec
     dissolved(m.actor, m.home, i, freed)
 }
 
-// The move, in one pass that remakes each record in place; inner.
+// Whether the move changes record i, whose parent is p.
+fn touched(m: Move, i: u16, p: u16) -> bool
+    ensures { λ b. ⌜ b ≡ touchedBy m i p ⌝ }
+{
+    (i == m.actor) | ((i == m.opened) | ((i == m.mover) | ((p == m.actor) | (p == m.opened))))
+}
+
+// Record i of the bytes as after the move; inner. A record that the move leaves is not written.
+fn remake(it: &mut [u8], m: Move, i: u16)
+    requires { ⌜ (1 ≤ i) × (8 * i ≤ length (now it)) × (withRecord (now it) i (decode (now it) i) ≡ now it) ⌝ }
+    ensures { λ _. ⌜ now (it .exit) ≡ withRecord (now (it .entry)) i (remade m i (decode (now (it .entry)) i)) ⌝ }
+{
+    let p = itinerary::parent_of(it, i);
+    if !touched(m, i, p) {
+        return;
+    }
+    let r = itinerary::record_at(it, i);
+    itinerary::put_record(it, i, remade(m, i, r));
+}
+
+// The move, in one pass over the records in place; inner.
 fn apply(it: &mut [u8], m: Move)
-    requires { ⌜ (length (now it) % 8 ≡ 0) × (length (now it) ≤ 8192) ⌝ }
+    requires { ⌜ validity (now it) ≡ pass ⌝ }
     ensures { λ _. ⌜ now (it .exit) ≡ encode (applied m (records (now (it .entry)))) ⌝ }
 {
     let n = (it.len() / 8) as u16;
     let mut i: u16 = 0;
     while i < n {
-        let r = itinerary::record_at(it, i + 1);
-        itinerary::put_record(it, i + 1, remade(m, i + 1, r));
+        remake(it, m, i + 1);
         i += 1;
     }
 }

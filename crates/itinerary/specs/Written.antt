@@ -1,13 +1,16 @@
 -- Bytes that are written record by record.
 use Prim.Native.Nat.{_%_, _*_, _+_, _-_, _/_, _<_, _≤_, suc, ℕ}
-use lib.ListN.{drop, drop-of-length-le, length, length-append, length-drop, set, take}
-use lib.Seq.{drop-append-add, drop-drop, getD-append-add, getD-drop, length-take-le, sets-eq, take-all, take-at, take-suc}
+use lib.ListN.{drop, drop-of-length-le, length, length-append, length-drop, set, take, take-append-drop}
+use lib.Seq.{drop-append-add, drop-drop, ext-getD, getD-append-add, getD-drop, getD-take, length-take-le, sets-eq, take-all, take-at, take-suc}
 use mathlib.Core.List.{List, [], _++_, _∷_, append-assoc, append-nil}
 use mathlib.Core.Path.{_∙_, _≡_, ap, refl, sym}
+use native.Mathlib.Numerals.{add-one}
 use native.Mathlib.Omega.{arith}
-use Rattle.model.specs.Laws.Bytes.{at-decode, length-encode, length-records, rec-path}
+use Rattle.model.specs.Laws.Bytes.{back, byteIn, byte-encode, passed, at-decode, length-encode, length-records, rec-path}
 use Rattle.model.specs.Laws.Updates.{at-update, length-update}
 use Rattle.model.specs.Records.{at, byte, byteOf, count, decode, encode, gone, records, update}
+use Rattle.model.specs.Refusals.{pass}
+use Rattle.model.specs.Validity.{validity}
 use Rattle.model.specs.declared.Rec.{Rec}
 
 -- the bytes with record i replaced
@@ -60,7 +63,7 @@ module _ (its : List Rec) (s : List ℕ) where
   written-length i l m = length-append (encode (take i its)) (drop (8 * i) s) ∙ omega (arith, head-length i l, length-drop (8 * i) s)
 
   -- what is not yet written is as before
-  byte-past : (i k : ℕ) → i ≤ length its → byte (written its i s) (8 * i + k) ≡ byte s (8 * i + k)
+  pub byte-past : (i k : ℕ) → i ≤ length its → byte (written its i s) (8 * i + k) ≡ byte s (8 * i + k)
   unfolding written
   byte-past i k l =
       ap (λ n. byte (encode (take i its) ++ drop (8 * i) s) (n + k)) (sym (head-length i l))
@@ -108,3 +111,29 @@ module _ (f : ℕ → Rec → Rec) (s d : List ℕ) (i : ℕ) (t : List ℕ) (e 
 
   pub pass-end : count s ≤ i → length d ≤ 8 * i → t ≡ encode (update f (records s))
   pass-end l m = e ∙ written-all (update f (records s)) d i (omega (arith, size)) m
+
+-- eight bytes of a list, and the record they are
+whole-record : (t : List ℕ) (i : ℕ) → 8 * (i + 1) ≤ length t → ((k : ℕ) → k < 8 → byteIn (decode t (i + 1)) k ≡ byte t (8 * i + k)) → withRecord t (i + 1) (decode t (i + 1)) ≡ t
+unfolding withRecord
+whole-record t i l h =
+    let n : 8 * (i + 1 - 1) ≡ 8 * i = omega arith in
+    let m : 8 * (i + 1) ≡ 8 * i + 8 = omega arith in
+    let r = decode t (i + 1) in
+    let long : 8 ≤ length (drop (8 * i) t) = omega (arith, length-drop (8 * i) t) in
+    let eight : encode (decode t (i + 1) ∷ []) ≡ take 8 (drop (8 * i) t) =
+          ext-getD 0 _ _ (length-encode (decode t (i + 1) ∷ []) ∙ sym (length-take-le 8 (drop (8 * i) t) long))
+          (λ k q. let w : k < 8 = omega (arith, length-encode (decode t (i + 1) ∷ [])) in
+            let z : k ≡ 8 * 0 + k = omega arith in
+            ap (byte (encode (decode t (i + 1) ∷ []))) z ∙ byte-encode (decode t (i + 1) ∷ []) 0 k (omega arith) w ∙ h k w ∙ sym (getD-take 8 (drop (8 * i) t) k 0 w ∙ getD-drop (8 * i) t k 0)) in
+    rw (n, m, eight)
+    (ap (λ x. take (8 * i) t ++ (take 8 (drop (8 * i) t) ++ x)) (sym (drop-drop 8 (8 * i) t))
+     ∙ ap (λ x. take (8 * i) t ++ x) (take-append-drop 8 (drop (8 * i) t)) ∙ take-append-drop (8 * i) t)
+
+-- in a pass over a valid itinerary, the record that comes next is still whole
+pub pass-whole : (f : ℕ → Rec → Rec) (s : List ℕ) (i : ℕ) (t : List ℕ) → t ≡ written (update f (records s)) i s → ((j : ℕ) → byte s j < 256) → validity s ≡ pass → i < count s →
+    withRecord t (i + 1) (decode t (i + 1)) ≡ t
+unfolding count
+pass-whole f s i t e small v l =
+    whole-record t i (omega (arith, pass-length f s s i t e (omega arith) (omega arith)))
+    (λ k q. ap (λ r. byteIn r k) (pass-read f s s i t e (omega arith) ∙ ap (decode s) (add-one i)) ∙ back s small (passed s v) i k l q
+      ∙ sym (ap (λ x. byte x (8 * i + k)) e ∙ byte-past (update f (records s)) s i k (omega (arith, length-update f (records s), length-records s))))

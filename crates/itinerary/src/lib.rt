@@ -35,8 +35,8 @@ pub fn word(low: u8, high: u8) -> u16
     (low as u16) + 256 * (high as u16)
 }
 
-// Record i, gone for the environment and over the count.
-pub fn record_at(it: &[u8], i: u16) -> Rec
+// Record i byte by byte, for the environment and past the last whole record.
+fn edge_at(it: &[u8], i: u16) -> Rec
     ensures { λ r. ⌜ r ≡ decode (now (it .entry)) i ⌝ }
 {
     Rec {
@@ -45,6 +45,34 @@ pub fn record_at(it: &[u8], i: u16) -> Rec
         name: byte_of(it, i, 2),
         parent: word(byte_of(it, i, 4), byte_of(it, i, 5)),
     }
+}
+
+// Record i, gone for the environment and over the count. One test of the length serves a whole record.
+pub fn record_at(it: &[u8], i: u16) -> Rec
+    ensures { λ r. ⌜ r ≡ decode (now (it .entry)) i ⌝ }
+{
+    if i == 0 {
+        return edge_at(it, i);
+    }
+    let at = 8 * ((i as usize) - 1);
+    if it.len() < at + 8 {
+        return edge_at(it, i);
+    }
+    Rec {
+        kind: it[at],
+        label: it[at + 1],
+        name: it[at + 2],
+        parent: word(it[at + 4], it[at + 5]),
+    }
+}
+
+// The parent's number of a whole record; inner.
+pub fn parent_of(it: &[u8], i: u16) -> u16
+    requires { ⌜ (1 ≤ i) × (8 * i ≤ length (now it)) ⌝ }
+    ensures { λ r. ⌜ r ≡ decode (now (it .entry)) i .parent ⌝ }
+{
+    let at = 8 * ((i as usize) - 1);
+    word(it[at + 4], it[at + 5])
 }
 
 // Whether a record is an ambient or a capability.

@@ -3,7 +3,7 @@ use borrow.Author.Needs.{needs}
 use mathlib.Core.Path.{_∙_, ap, sym}
 use Rattle.calculus.specs.Laws.{act-done, act-refused}
 use Rattle.calculus.specs.Moves.{decisionNumber}
-use Rattle.itinerary.specs.Laws.{valid-few, valid-whole}
+use Rattle.itinerary.specs.Laws.{valid-whole}
 use Rattle.calculus.proofs.act.Statement.{statement}
 use Rattle.calculus.proofs.act.Tie as tie
 
@@ -29,7 +29,7 @@ returns c = let q = c .before .enum-told .given .1 in
     (c .number-of .ensures ∙ ap decisionNumber q ∙ w .0, w .1)
 
 apply-requires : tie.Need-apply-requires
-apply-requires c κs = (valid-whole _ (c .before .before .before .before .before .before .before .pre), valid-few _ (c .before .before .before .before .before .before .before .pre))
+apply-requires c κs = c .before .before .before .before .before .before .before .pre
 
 same-length-2 : tie.Need-same-length-2
 same-length-2 c = search needs

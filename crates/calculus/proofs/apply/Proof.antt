@@ -1,13 +1,16 @@
 -- `calculus::apply` meets its contract. The loop's invariant: the records passed are as after the move, and the others as before.
-use Prim.Native.Nat.{_-_, _≤_}
-use borrow.Author.Needs.{needs}
-use mathlib.Core.Path.{_∙_, _≡_}
-use native.Mathlib.Omega.{arith}
-use Rattle.calculus.specs.Moves.{applied, remade}
-use Rattle.itinerary.specs.Written.{pass-end, pass-length, pass-next, pass-read, written, written-none}
 use Rattle.model.specs.Records.{count, records, update}
+use Rattle.itinerary.specs.Laws.{valid-few, valid-whole}
+use Rattle.itinerary.specs.Written.{pass-end, pass-length, pass-next, pass-read, pass-whole, written, written-none}
+use Rattle.calculus.specs.Moves.{applied, remade}
+use native.Mathlib.Omega.{arith}
+use mathlib.Core.Path.{_∙_, _≡_, ap, refl, sym}
+use Prim.Native.Nat.{_-_, _≤_}
 use Rattle.calculus.proofs.apply.Statement.{statement}
 use Rattle.calculus.proofs.apply.Tie as tie
+use Rattle.calculus.proofs.apply.Reads as reads
+use Rattle.calculus.proofs.apply.Lts as lts
+use Rattle.calculus.proofs.remake.Reads as remake-reads
 
 abbrev Inv-loop : tie.InvT-loop
 Inv-loop it₀ m n i₀ it i = (i ≤ n) × (it ≡ written (update (remade m) (records it₀)) i it₀)
@@ -15,48 +18,46 @@ Inv-loop it₀ m n i₀ it i = (i ≤ n) × (it ≡ written (update (remade m) (
 abbrev μ-loop : tie.MeasureT-loop
 μ-loop it₀ m n i₀ it i = n - i
 
+-- src/lib.rt:194:13
 cast-n : tie.Need-cast-n Inv-loop μ-loop
-cast-n c = omega arith
+cast-n c = omega (arith, valid-few _ (c .before .pre))
 
+-- src/lib.rt:196:5
 loop-holds : tie.Need-loop-holds Inv-loop μ-loop
-loop-holds c = (search needs, written-none _ _)
+loop-holds c = (omega arith, written-none _ _)
 
-add-record-at : tie.Need-add-record-at Inv-loop μ-loop
-add-record-at c = omega arith
+-- src/lib.rt:197:23
+add-remake : tie.Need-add-remake Inv-loop μ-loop
+add-remake c = omega (arith, valid-few _ (c .before .before .before .before .pre))
 
-record-at-requires : tie.Need-record-at-requires Inv-loop μ-loop
-record-at-requires c κs = search needs
-
-add-put-record : tie.Need-add-put-record Inv-loop μ-loop
-add-put-record c = omega arith
-
-add-remade : tie.Need-add-remade Inv-loop μ-loop
-add-remade c = omega arith
-
-remade-requires : tie.Need-remade-requires Inv-loop μ-loop
-remade-requires c κs = search needs
-
-put-record-requires : tie.Need-put-record-requires Inv-loop μ-loop
+-- src/lib.rt:197:9
+remake-requires : tie.Need-remake-requires Inv-loop μ-loop
 unfolding count
-put-record-requires c κs = let e = pass-length _ _ _ _ _ (c .before .before .before .before .before .loop .inv .1) (omega arith) (omega arith) in omega arith
+remake-requires c κs = let e = pass-length _ _ _ _ _ (c .before .before .loop .inv .1) (omega arith) (omega arith) in
+    (omega arith, omega arith, pass-whole _ _ _ _ (c .before .before .loop .inv .1) (λ j. omega (arith, c .before .before .before .slice-known .given j)) (c .before .before .before .before .pre) (omega arith))
 
+-- src/lib.rt:198:9
 add-i : tie.Need-add-i Inv-loop μ-loop
-add-i c = omega arith
+add-i c = omega (arith, valid-few _ (c .before .before .before .before .before .before .before .pre))
 
+-- src/lib.rt:196:5
 loop-less : tie.Need-loop-less Inv-loop μ-loop
 loop-less c = omega arith
 
+-- src/lib.rt:196:5
 loop-again : tie.Need-loop-again Inv-loop μ-loop
 unfolding count
-loop-again c = (omega arith, c .before .before .put-record .ensures ∙ pass-next _ _ _ _ _ (c .before .before .before .before .before .before .before .before .loop .inv .1) (omega arith) _ _ (c .before .before .before .before .before .record-at .ensures ∙ pass-read _ _ _ _ _ (c .before .before .before .before .before .before .before .before .loop .inv .1) (omega arith)) (c .before .before .before .remade .ensures))
+loop-again c = (omega arith, c .before .before .remake .ensures ∙ pass-next _ _ _ _ _ (c .before .before .before .before .before .loop .inv .1) (omega arith) _ _ (pass-read _ _ _ _ _ (c .before .before .before .before .before .loop .inv .1) (omega arith)) refl)
 
+-- src/lib.rt:190:1
 same-length : tie.Need-same-length Inv-loop μ-loop
 unfolding count
 same-length c = pass-length _ _ _ _ _ (c .before .loop .inv .1) (omega arith) (omega arith)
 
+-- src/lib.rt:190:1
 returns : tie.Need-returns Inv-loop μ-loop
 unfolding applied count
-returns c = pass-end _ _ _ _ _ (c .before .loop .inv .1) (omega arith) (omega arith)
+returns c = pass-end _ _ _ _ _ (c .before .loop .inv .1) (omega arith) (omega (arith, valid-whole _ (c .before .before .before .pre)))
 
 pub apply-spec : {M : Type 1} → statement M
 apply-spec =
@@ -66,12 +67,8 @@ apply-spec =
     μ-loop
     cast-n
     loop-holds
-    add-record-at
-    record-at-requires
-    add-put-record
-    add-remade
-    remade-requires
-    put-record-requires
+    add-remake
+    remake-requires
     add-i
     loop-less
     loop-again

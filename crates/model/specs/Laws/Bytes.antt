@@ -280,7 +280,7 @@ module _ {its : List Rec} (wf : WellFormed its) where
 
 -- bytes that pass the validation are those of their records
 module _ (s : List ℕ) (small : (j : ℕ) → byte s j < 256) (w : Passed s) where
-  back : (i k : ℕ) → i < count s → k < 8 → byteIn (decode s (suc i)) k ≡ byte s (8 * i + k)
+  pub back : (i k : ℕ) → i < count s → k < 8 → byteIn (decode s (suc i)) k ≡ byte s (8 * i + k)
   unfolding byteIn decode spareRight byteOf
   back i zero l m = refl
   back i (suc zero) l m = refl

@@ -1,0 +1,67 @@
+-- `calculus::remake` meets its contract: a record that the move leaves is written as it stands.
+use Rattle.calculus.specs.Moves.{touchedBy, remade}
+use Rattle.calculus.specs.Laws.{untouched}
+use Rattle.itinerary.specs.Written.{withRecord}
+use borrow.Author.Tests.{not-true}
+use native.Mathlib.Omega.{arith}
+use mathlib.Core.Path.{_∙_, _≡_, ap, refl, sym}
+use borrow.Author.Needs.{needs}
+use Rattle.calculus.proofs.remake.Statement.{statement}
+use Rattle.calculus.proofs.remake.Tie as tie
+use Rattle.calculus.proofs.remake.Reads as reads
+use Rattle.calculus.proofs.remake.Lts as lts
+use Rattle.calculus.proofs.remade.Reads as remade-reads
+use Rattle.calculus.proofs.touched.Reads as touched-reads
+use Rattle.itinerary.proofs.parent_of.Reads as parent-of-reads
+use Rattle.itinerary.proofs.put_record.Reads as put-record-reads
+use Rattle.itinerary.proofs.record_at.Reads as record-at-reads
+
+-- src/lib.rt:181:9
+parent-of-requires : tie.Need-parent-of-requires
+parent-of-requires c κs = search needs
+
+-- src/lib.rt:182:9
+touched-requires : tie.Need-touched-requires
+touched-requires c κs = search needs
+
+-- src/lib.rt:183:9
+same-length : tie.Need-same-length
+same-length c = search needs
+
+-- src/lib.rt:183:9
+returns : tie.Need-returns
+returns c = sym (c .before .before .before .before .before .pre .2) ∙ ap (withRecord _ _) (sym (untouched _ _ _ (ap (touchedBy _ _) (sym (c .before .before .parent-of .ensures)) ∙ sym (c .before .touched .ensures) ∙ not-true _ (c .if1 .taken))))
+
+-- src/lib.rt:185:9
+record-at-requires : tie.Need-record-at-requires
+record-at-requires c κs = search needs
+
+-- src/lib.rt:186:34
+remade-requires : tie.Need-remade-requires
+remade-requires c κs = search needs
+
+-- src/lib.rt:186:5
+put-record-requires : tie.Need-put-record-requires
+put-record-requires c κs = search needs
+
+-- src/lib.rt:177:1
+same-length-2 : tie.Need-same-length-2
+same-length-2 c = search needs
+
+-- src/lib.rt:177:1
+returns-2 : tie.Need-returns-2
+returns-2 c = c .before .before .put-record .ensures ∙ ap (withRecord _ _) (c .before .before .before .remade .ensures ∙ ap (remade _ _) (c .before .before .before .before .before .record-at .ensures))
+
+pub remake-spec : {M : Type 1} → statement M
+remake-spec =
+    tie.close
+    (tie.spec
+    parent-of-requires
+    touched-requires
+    same-length
+    returns
+    record-at-requires
+    remade-requires
+    put-record-requires
+    same-length-2
+    returns-2)

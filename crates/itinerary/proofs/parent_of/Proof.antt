@@ -1,0 +1,54 @@
+-- `itinerary::parent_of` meets its contract.
+use native.Mathlib.Omega.{arith}
+use Rattle.itinerary.specs.Laws.{parent-direct}
+use borrow.Author.Needs.{needs}
+use Rattle.itinerary.proofs.parent_of.Statement.{statement}
+use Rattle.itinerary.proofs.parent_of.Tie as tie
+use Rattle.itinerary.proofs.parent_of.Reads as reads
+use Rattle.itinerary.proofs.parent_of.Lts as lts
+use Rattle.itinerary.proofs.word.Reads as word-reads
+
+-- src/lib.rt:74:19
+sub-at : tie.Need-sub-at
+sub-at c = search needs
+
+-- src/lib.rt:74:14
+mul-at : tie.Need-mul-at
+mul-at c = search needs
+
+-- src/lib.rt:75:13
+add-word : tie.Need-add-word
+add-word c = search needs
+
+-- src/lib.rt:75:10
+shared-slice-read-word : tie.Need-shared-slice-read-word
+shared-slice-read-word c = search needs
+
+-- src/lib.rt:75:25
+add-word-2 : tie.Need-add-word-2
+add-word-2 c = search needs
+
+-- src/lib.rt:75:22
+shared-slice-read-word-2 : tie.Need-shared-slice-read-word-2
+shared-slice-read-word-2 c = search needs
+
+-- src/lib.rt:75:5
+word-requires : tie.Need-word-requires
+word-requires c κs = search needs
+
+-- src/lib.rt:70:1
+returns : tie.Need-returns
+returns c = parent-direct _ _ _ (λ e. omega arith) (c .word .ensures)
+
+pub parent-of-spec : {M : Type 1} → statement M
+parent-of-spec =
+    tie.close
+    (tie.spec
+    sub-at
+    mul-at
+    add-word
+    shared-slice-read-word
+    add-word-2
+    shared-slice-read-word-2
+    word-requires
+    returns)
