@@ -15,7 +15,7 @@ ghost use Rattle.model.specs.Refusals.{pass};
 ghost use Rattle.model.specs.Validity.{validity};
 ghost use Rattle.model.specs.Analysis.{free};
 ghost use Rattle.model.specs.Finite.{digit};
-ghost use Rattle.model.specs.Scripts.{afterOrders, answersOf, countsOf, orders, outcomes, scriptRight};
+ghost use Rattle.model.specs.Scripts.{afterList, answersOf, countsOf, stepsIn, outcomes, scriptRight};
 ghost use Rattle.model.specs.Steps.{answerOf, dissolved, outcome, placed, ready, stepBytes};
 ghost use Rattle.model.specs.Calls.{runAfter, runAnswer, runAnswers, stepAfter, stepAnswer};
 ghost use Rattle.model.specs.Numbers.{performedAs, ranAs};
@@ -277,9 +277,9 @@ fn script_right(script: &[u8], room: usize) -> bool
 // The steps of a script, in order, on an itinerary that is known to be valid; inner.
 fn run_steps(it: &mut [u8], script: &[u8], answers: &mut [u8]) -> Counts
     requires { ⌜ (validity (now it) ≡ pass) × (scriptRight (now script) (length (now answers)) ≡ true) ⌝ }
-    ensures { λ r. ⌜ (r ≡ countsOf (outcomes free (now (it .entry)) (orders (now (script .entry)))))
-        × (now (it .exit) ≡ afterOrders free (now (it .entry)) (orders (now (script .entry))))
-        × (now (answers .exit) ≡ answersOf free (now (it .entry)) (orders (now (script .entry)))) ⌝ }
+    ensures { λ r. ⌜ (r ≡ countsOf (outcomes free (now (it .entry)) (stepsIn (now (script .entry)))))
+        × (now (it .exit) ≡ afterList free (now (it .entry)) (stepsIn (now (script .entry))))
+        × (now (answers .exit) ≡ answersOf free (now (it .entry)) (stepsIn (now (script .entry)))) ⌝ }
 {
     let mut c = Counts {
         ins: 0,

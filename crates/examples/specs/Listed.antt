@@ -29,7 +29,7 @@ use Rattle.model.specs.Noninterference.{after, afterEvent, allSteps, given, giv
 use Rattle.model.specs.Observer.{onSheet, sheet}
 use Rattle.model.specs.Records.{at, byteOf, capability, count, decode, encode, isAmbient, nested, records, updateFrom}
 use Rattle.model.specs.Refusals.{andThen, answer, content, done, eachOf, need, pass}
-use Rattle.model.specs.Scripts.{afterOrders, answersOf, countsOf, doneBy, howMany, kindOf, notGone, orderAt, orders, outcomes, scriptRight}
+use Rattle.model.specs.Scripts.{afterList, answersOf, countsOf, doneBy, howMany, kindOf, notGone, stepIn, stepsIn, outcomes, scriptRight}
 use Rattle.model.specs.Steps.{answerOf, decide, dissolve, dissolved, fit, move, outcome, outcomeBy, place, placed, ready, rewritten, stands, stepBytes}
 use Rattle.model.specs.Tables.{bitAt, bits, isBoundary, isHigh, parts, placeH, placeI, placeS, policyRight, tableSized, testBit, total}
 use Rattle.model.specs.Validity.{blank, climbCheck, goneRight, kindRight, labelBy, labelIn, labelRight, nameBy, nameRight, parentRight, recordCheck, sizeRight, spareRight, validity}
@@ -38,7 +38,7 @@ use Rattle.model.specs.declared.Verdict.{Verdict}
 
 -- what the examples compute with: to unfold this is to unfold all that its line names
 unfoldable pub computing : ℕ
-unfolding sizeRight kindRight spareRight blank goneRight labelIn labelBy labelRight nameBy nameRight parentRight recordCheck climbCheck validity count byteOf decode records tabulate at isAmbient nested viewFrom reaches need andThen eachOf view labelled capability every onlyIf ruleHolds rulesHold recordHolds holds isHigh placeI placeH placeS isIn someOf lowest marked alike joins grown growing reached opening inR isBoundary verdictBy verdictOf encode updateFrom ambientAnd placed place dissolved dissolve ready stands fit move decide outcomeBy outcome answerOf rewritten stepBytes metCheck stepping stepAnswer stepAfter answer content orderAt orders scriptRight afterOrders outcomes answersOf running runAfter runAnswers afterEvent after kept stepsOf allSteps givenBy given hides isSuspect sheet onSheet policyRight total bytes numeral digit ones onesIn validateAnswer screening tally notGone countsOf howMany doneBy kindOf screenAnswers contentOf digitsIn field lastField verdictWord endWord refusedWord stepLines endLine listing labelOf rec classes allLow recordsA itineraryA itineraryB itineraryC itineraryD itineraryE itineraryF itineraryG itineraryH
+unfolding sizeRight kindRight spareRight blank goneRight labelIn labelBy labelRight nameBy nameRight parentRight recordCheck climbCheck validity count byteOf decode records tabulate at isAmbient nested viewFrom reaches need andThen eachOf view labelled capability every onlyIf ruleHolds rulesHold recordHolds holds isHigh placeI placeH placeS isIn someOf lowest marked alike joins grown growing reached opening inR isBoundary verdictBy verdictOf encode updateFrom ambientAnd placed place dissolved dissolve ready stands fit move decide outcomeBy outcome answerOf rewritten stepBytes metCheck stepping stepAnswer stepAfter answer content stepIn stepsIn scriptRight afterList outcomes answersOf running runAfter runAnswers afterEvent after kept stepsOf allSteps givenBy given hides isSuspect sheet onSheet policyRight total bytes numeral digit ones onesIn validateAnswer screening tally notGone countsOf howMany doneBy kindOf screenAnswers contentOf digitsIn field lastField verdictWord endWord refusedWord stepLines endLine listing labelOf rec classes allLow recordsA itineraryA itineraryB itineraryC itineraryD itineraryE itineraryF itineraryG itineraryH
 computing = 0
 
 -- every number of a list has the property
@@ -144,8 +144,8 @@ module _ {s policy xs : List ℕ} {ones : ℕ} {verdict : Verdict} (w : Listed s
       screenAnswer s policy z answers ≡ done (record {
         verdict = verdict;
         ones = ones;
-        counts = countsOf (outcomes free s (orders z));
-        left = notGone (records (afterOrders free s (orders z)));
+        counts = countsOf (outcomes free s (stepsIn z));
+        left = notGone (records (afterList free s (stepsIn z)));
       })
   unfolding screenAnswer screening answer
   listed-screen z answers e =

@@ -13,7 +13,7 @@ use Rattle.model.specs.Finite.{every}
 use Rattle.model.specs.Laws.WellFormed.{small}
 use Rattle.model.specs.Listing.{hubscreen, listing, written}
 use Rattle.model.specs.Records.{cap-in, cap-open, cap-out}
-use Rattle.model.specs.Scripts.{orders}
+use Rattle.model.specs.Scripts.{stepsIn}
 use Rattle.model.specs.Tables.{placeH, placeI, placeS}
 use Rattle.model.specs.declared.Verdict.the-variants.{Exposed, Hinted, Sealed}
 
@@ -133,7 +133,7 @@ suspects-F = refl
 writes-B : Meets (writes itineraryB classes scriptB textB)
 unfolding Meets hubscreen written computing scriptB textB
 writes-B =
-    ap (λ a. listing a (orders scriptB) (screenAnswers itineraryB classes scriptB (replicate (length scriptB / 4) 0)))
+    ap (λ a. listing a (stepsIn scriptB) (screenAnswers itineraryB classes scriptB (replicate (length scriptB / 4) 0)))
     (listed-screen listedB scriptB (replicate (length scriptB / 4) 0) refl)
 
 -- a proof and the rest

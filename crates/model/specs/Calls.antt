@@ -10,7 +10,7 @@ use Rattle.model.specs.Least.{leastTable}
 use Rattle.model.specs.Observer.{sheetOf}
 use Rattle.model.specs.Records.{count, records}
 use Rattle.model.specs.Refusals.{Answer, Check, andThen, answer, content, need, pass, refuse}
-use Rattle.model.specs.Scripts.{afterOrders, answersOf, countsOf, notGone, orders, outcomes, scriptRight}
+use Rattle.model.specs.Scripts.{afterList, answersOf, countsOf, notGone, stepsIn, outcomes, scriptRight}
 use Rattle.model.specs.Steps.{Outcome, met, outcome, stepBytes, unmet}
 use Rattle.model.specs.Tables.{bits, parts, policyRight, tableRight, tableSized, total}
 use Rattle.model.specs.Validity.{validity}
@@ -89,15 +89,15 @@ running s script answers = andThen (validity s) (need (scriptRight script (lengt
 
 -- a run returns its counts
 unfoldable pub runAnswer : List ℕ → List ℕ → List ℕ → Answer Counts
-runAnswer s script answers = answer (running s script answers) (countsOf (outcomes free s (orders script)))
+runAnswer s script answers = answer (running s script answers) (countsOf (outcomes free s (stepsIn script)))
 
 -- the lent itinerary after the run
 unfoldable pub runAfter : List ℕ → List ℕ → List ℕ → List ℕ
-runAfter s script answers = content (running s script answers) (afterOrders free s (orders script)) s
+runAfter s script answers = content (running s script answers) (afterList free s (stepsIn script)) s
 
 -- the lent answers after the run
 unfoldable pub runAnswers : List ℕ → List ℕ → List ℕ → List ℕ
-runAnswers s script answers = content (running s script answers) (answersOf free s (orders script)) answers
+runAnswers s script answers = content (running s script answers) (answersOf free s (stepsIn script)) answers
 
 -- hubscreen: 1 to 6, 7, 13; it "makes the table itself"
 unfoldable pub screening : List ℕ → List ℕ → List ℕ → List ℕ → Check
@@ -112,14 +112,14 @@ screenAnswer s policy script answers =
     (record {
       verdict = verdictOf (parts (bits table)) policy;
       ones = total table;
-      counts = countsOf (outcomes free s (orders script));
-      left = notGone (records (afterOrders free s (orders script)));
+      counts = countsOf (outcomes free s (stepsIn script));
+      left = notGone (records (afterList free s (stepsIn script)));
     })
 
 -- the lent itinerary after the screen
 unfoldable pub screenAfter : List ℕ → List ℕ → List ℕ → List ℕ → List ℕ
-screenAfter s policy script answers = content (screening s policy script answers) (afterOrders free s (orders script)) s
+screenAfter s policy script answers = content (screening s policy script answers) (afterList free s (stepsIn script)) s
 
 -- the lent answers after the screen
 unfoldable pub screenAnswers : List ℕ → List ℕ → List ℕ → List ℕ → List ℕ
-screenAnswers s policy script answers = content (screening s policy script answers) (answersOf free s (orders script)) answers
+screenAnswers s policy script answers = content (screening s policy script answers) (answersOf free s (stepsIn script)) answers

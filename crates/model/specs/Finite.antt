@@ -36,5 +36,5 @@ tally t zero = 0
 tally t (suc n) = digit (t (suc n)) + tally t n
 
 -- two numbers differ
-abbrev pub differ : ℕ → ℕ → Bool
-differ x y = not (eqb x y)
+abbrev pub unequal : ℕ → ℕ → Bool
+unequal x y = not (eqb x y)

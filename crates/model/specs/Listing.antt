@@ -9,7 +9,7 @@ use mathlib.Core.Option.{Option, none, some}
 use Rattle.model.specs.Calls.{screenAnswer, screenAnswers}
 use Rattle.model.specs.Least.{bytes}
 use Rattle.model.specs.Refusals.{Answer, done, refused}
-use Rattle.model.specs.Scripts.{Order, orders}
+use Rattle.model.specs.Scripts.{Step, stepsIn}
 use Rattle.model.specs.Verdicts.{labelOf}
 use Rattle.model.specs.declared.Screen.{Screen}
 use Rattle.model.specs.declared.Verdict.{Verdict}
@@ -48,7 +48,7 @@ unfoldable pub refusedWord : List ℕ
 refusedWord = 114 ∷ 101 ∷ 102 ∷ 117 ∷ 115 ∷ 101 ∷ 100 ∷ 32 ∷ []
 
 -- "Then actor, partner, answer.": a line for each step
-unfoldable pub stepLines : List Order → List ℕ → List ℕ → List ℕ
+unfoldable pub stepLines : List Step → List ℕ → List ℕ → List ℕ
 stepLines [] answers rest = rest
 stepLines (m ∷ ms) [] rest = rest
 stepLines (m ∷ ms) (a ∷ answers) rest = field (m .actor) (field (m .partner) (lastField a (stepLines ms answers rest)))
@@ -58,7 +58,7 @@ unfoldable pub endLine : Screen → List ℕ
 endLine x = endWord ++ field (x .counts .ins) (field (x .counts .outs) (field (x .counts .opens) (lastField (x .left) [])))
 
 -- "Line one: verdict, its label (0 if sealed), bits set." "A refusal writes only one line": "number, record"
-unfoldable pub listing : Answer Screen → List Order → List ℕ → List ℕ
+unfoldable pub listing : Answer Screen → List Step → List ℕ → List ℕ
 listing (done x) ms answers = verdictWord (x .verdict) ++ field (labelOf (x .verdict)) (lastField (x .ones) (stepLines ms answers (endLine x)))
 listing (refused n r) ms answers = refusedWord ++ field n (lastField r [])
 
@@ -66,7 +66,7 @@ listing (refused n r) ms answers = refusedWord ++ field n (lastField r [])
 unfoldable pub written : List ℕ → List ℕ → List ℕ → List ℕ
 written s policy script =
     let answers : List ℕ = replicate (length script / 4) 0 in
-    listing (screenAnswer s policy script answers) (orders script) (screenAnswers s policy script answers)
+    listing (screenAnswer s policy script answers) (stepsIn script) (screenAnswers s policy script answers)
 
 -- what hubscreen writes
 unfoldable pub hubscreen : Option (List ℕ) → Option (List ℕ) → Option (List ℕ) → List ℕ

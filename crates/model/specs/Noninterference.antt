@@ -14,7 +14,7 @@ use Rattle.model.specs.Least.{bytes}
 use Rattle.model.specs.Observer.{sheetOf}
 use Rattle.model.specs.Records.{at, isAmbient, parentOf, records}
 use Rattle.model.specs.Refusals.{done, number}
-use Rattle.model.specs.Scripts.{Order, orders, scriptRight}
+use Rattle.model.specs.Scripts.{Step, stepsIn, scriptRight}
 use Rattle.model.specs.Tables.{isBoundary, suspects}
 use Rattle.model.specs.declared.Verdict.the-variants.{Sealed}
 
@@ -39,12 +39,12 @@ kept true xs = xs
 kept false xs = []
 
 -- "A script run stands in it for its steps in order; a run refused with 13 stands for none."
-unfoldable pub stepsOf : Event → List Order
+unfoldable pub stepsOf : Event → List Step
 stepsOf (single actor partner) = record { actor = actor; partner = partner } ∷ []
-stepsOf (script z room) = kept (scriptRight z room) (orders z)
+stepsOf (script z room) = kept (scriptRight z room) (stepsIn z)
 
 -- the flattened list of steps
-unfoldable pub allSteps : List Event → List Order
+unfoldable pub allSteps : List Event → List Step
 allSteps [] = []
 allSteps (e ∷ es) = stepsOf e ++ allSteps es
 
@@ -59,12 +59,12 @@ given s [] = []
 given s (e ∷ es) = givenBy s e ++ given (afterEvent s e) es
 
 -- the itinerary after single steps
-unfoldable pub afterSteps : List ℕ → List Order → List ℕ
+unfoldable pub afterSteps : List ℕ → List Step → List ℕ
 afterSteps s [] = s
 afterSteps s (m ∷ ms) = afterSteps (stepAfter s (m .actor) (m .partner)) ms
 
 -- the n-th step of the list, counted from 0
-unfoldable pub stepAt : List Event → ℕ → Order
+unfoldable pub stepAt : List Event → ℕ → Step
 stepAt es n = getD (allSteps es) n (record { actor = 0; partner = 0 })
 
 -- the itinerary just before the n-th step

@@ -6,7 +6,7 @@ use mathlib.Core.List.{List}
 use mathlib.Core.Option.{Option, none, some}
 use Rattle.model.specs.Analysis.{Permit}
 use Rattle.model.specs.Climbing.{ambients}
-use Rattle.model.specs.Finite.{differ}
+use Rattle.model.specs.Finite.{unequal}
 use Rattle.model.specs.Records.{Capability, at, cap-in, cap-open, cap-out, capability, encode, gone, isAmbient, parentOf, records, update}
 use Rattle.model.specs.declared.Rec.{Rec}
 
@@ -40,7 +40,7 @@ ready cap-open its q = ambients its q
 -- where the partner b stands; q is c's parent, for in and out the ambient a
 unfoldable pub stands : Capability → List Rec → ℕ → ℕ → Bool
 -- "in: the partner is an ambient other than a, with a's parent"
-stands cap-in its q b = differ b q && eqb (parentOf its b) (parentOf its q)
+stands cap-in its q b = unequal b q && eqb (parentOf its b) (parentOf its q)
 -- "out: the partner is an ambient, a's parent"
 stands cap-out its q b = eqb b (parentOf its q)
 -- "open: the partner is an ambient with c's parent"

@@ -6,7 +6,7 @@ use lib.ListN.{length}
 use mathlib.Core.Bool.{Bool, _&&_, false, true}
 use mathlib.Core.List.{List}
 use Rattle.model.specs.Climbing.{reaches}
-use Rattle.model.specs.Finite.{differ}
+use Rattle.model.specs.Finite.{unequal}
 use Rattle.model.specs.Records.{byteOf, count, decode, isAmbient, nested, records}
 use Rattle.model.specs.Refusals.{Check, andThen, eachOf, need}
 use Rattle.model.specs.declared.Rec.{Rec}
@@ -58,7 +58,7 @@ nameRight r = nameBy (nested r) (r .name)
 -- 5: "parent over the record count, or a record of kind 0"
 unfoldable pub parentRight : List ℕ → ℕ → Bool
 parentRight s zero = true
-parentRight s (suc p) = leb (suc p) (count s) && differ (byteOf s (suc p) 0) 0
+parentRight s (suc p) = leb (suc p) (count s) && unequal (byteOf s (suc p) 0) 0
 
 -- record i: 2, 3, 4, 5, in this order
 unfoldable pub recordCheck : List ℕ → ℕ → Check

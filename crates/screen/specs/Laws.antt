@@ -10,16 +10,16 @@ use native.Mathlib.Numerals.{add-one}
 use native.Mathlib.Omega.{arith}
 use Rattle.model.specs.Analysis.{free}
 use Rattle.model.specs.Calls.{makeAfter, makeAnswer, making, runAfter, runAnswer, runAnswers, running, screenAfter, screenAnswer, screenAnswers, screening}
-use Rattle.model.specs.Finite.{differ, digit, tally}
+use Rattle.model.specs.Finite.{unequal, digit, tally}
 use Rattle.model.specs.Laws.Bytes.{at-whole, length-records, passed, size-le, size-whole}
 use Rattle.model.specs.Laws.Checks.{answer-done, answer-value, need-make, need-pass, then-pass}
-use Rattle.model.specs.Laws.Done.{Done, orders-valid}
+use Rattle.model.specs.Laws.Done.{Done, list-valid}
 use Rattle.model.specs.Laws.WellFormed.{and-left}
 use Rattle.model.specs.Least.{leastTable}
 use Rattle.model.specs.Numbers.{madeAs, ranAs, refusal}
 use Rattle.model.specs.Records.{at, byteOf, count, decode, records}
 use Rattle.model.specs.Refusals.{Answer, Check, andThen, answer, content, done, need, number, pass, refuse, refused}
-use Rattle.model.specs.Scripts.{afterOrders, answersOf, countsOf, notGone, orders, outcomes, scriptRight}
+use Rattle.model.specs.Scripts.{afterList, answersOf, countsOf, notGone, stepsIn, outcomes, scriptRight}
 use Rattle.model.specs.Tables.{bits, parts, policyRight, tableSized, total}
 use Rattle.model.specs.Validity.{validity}
 use Rattle.model.specs.Verdicts.{verdictOf}
@@ -83,7 +83,7 @@ module _ (s policy z answers table : List ℕ) (size : length table ≡ 1544) wh
     -- what the run leaves, the screen leaves
     pub run-leaves : (screenAfter s policy z answers ≡ runAfter s z answers) × (screenAnswers s policy z answers ≡ runAnswers s z answers)
     unfolding screenAfter screenAnswers runAfter runAnswers
-    run-leaves = (ap (λ c. content c (afterOrders free s (orders z)) s) screening-run, ap (λ c. content c (answersOf free s (orders z)) answers) screening-run)
+    run-leaves = (ap (λ c. content c (afterList free s (stepsIn z)) s) screening-run, ap (λ c. content c (answersOf free s (stepsIn z)) answers) screening-run)
 
     -- the screen is done: what it returns
     pub screen-done : (c : Counts) → runAnswer s z answers ≡ done c → (v : Verdict) → v ≡ verdictOf (parts (bits (makeAfter s policy table))) policy →
@@ -93,9 +93,9 @@ module _ (s policy z answers table : List ℕ) (size : length table ≡ 1544) wh
         let q : running s z answers ≡ pass = answer-done (running s z answers) _ c h in
         let p : screening s policy z answers ≡ pass = screening-run ∙ q in
         let e : total (leastTable free policy (records s)) ≡ m = answer-value (making s policy table) _ m made in
-        let f : countsOf (outcomes free s (orders z)) ≡ c = answer-value (running s z answers) _ c h in
+        let f : countsOf (outcomes free s (stepsIn z)) ≡ c = answer-value (running s z answers) _ c h in
         let ev′ : v ≡ verdictOf (parts (bits (leastTable free policy (records s)))) policy = rw (passes, content) at ev in
-        let el′ : left ≡ notGone (records (afterOrders free s (orders z))) = rw (q, content) at el in
+        let el′ : left ≡ notGone (records (afterList free s (stepsIn z))) = rw (q, content) at el in
         rw (p, answer, ev′, el′, ← e, ← f)
 
 -- the answers behind the enums
@@ -128,26 +128,26 @@ pub run-sized : (s z answers : List ℕ) (c : Counts) → runAnswer s z answers 
 unfolding runAnswer runAfter running content
 run-sized s z answers c h =
     let q : running s z answers ≡ pass = answer-done (running s z answers) _ c h in
-    let v = orders-valid free (orders z) s (then-pass _ _ q .0) in
+    let v = list-valid free (stepsIn z) s (then-pass _ _ q .0) in
     let w = passed _ v .size in
     (rw (q, content) (size-whole _ w), rw (q, content) (size-le _ w))
 
 -- how many of the records up to i are not gone
 unfoldable pub notGoneTo : List ℕ → ℕ → ℕ
-notGoneTo s i = tally (λ j. differ (at (records s) j .kind) 0) i
+notGoneTo s i = tally (λ j. unequal (at (records s) j .kind) 0) i
 
 pub none-yet : (s : List ℕ) → 0 ≡ notGoneTo s 0
 unfolding notGoneTo tally
 none-yet s = refl
 
 -- one record more
-pub one-more : (s : List ℕ) → length s % 8 ≡ 0 → (i sum k r : ℕ) → sum ≡ notGoneTo s i → k ≡ byteOf s (i + 1) 0 → r ≡ digit (differ k 0) → sum + r ≡ notGoneTo s (i + 1)
+pub one-more : (s : List ℕ) → length s % 8 ≡ 0 → (i sum k r : ℕ) → sum ≡ notGoneTo s i → k ≡ byteOf s (i + 1) 0 → r ≡ digit (unequal k 0) → sum + r ≡ notGoneTo s (i + 1)
 unfolding notGoneTo tally decode
 one-more s w i sum k r e f g =
     let h : at (records s) (suc i) .kind ≡ k = ap (λ x. x .kind) (at-whole s w (suc i)) ∙ sym (f ∙ ap (λ j. byteOf s j 0) (add-one i)) in
-    let a : digit (differ (at (records s) (suc i) .kind) 0) ≡ r = ap (λ x. digit (differ x 0)) h ∙ sym g in
+    let a : digit (unequal (at (records s) (suc i) .kind) 0) ≡ r = ap (λ x. digit (unequal x 0)) h ∙ sym g in
     rw (add-one i) (omega arith)
 
 pub all-seen : (s : List ℕ) (i sum : ℕ) → i ≡ length s / 8 → sum ≡ notGoneTo s i → sum ≡ notGone (records s)
 unfolding notGoneTo notGone count
-all-seen s i sum e f = f ∙ ap (tally (λ j. differ (at (records s) j .kind) 0)) (e ∙ sym (length-records s))
+all-seen s i sum e f = f ∙ ap (tally (λ j. unequal (at (records s) j .kind) 0)) (e ∙ sym (length-records s))

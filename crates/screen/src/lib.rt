@@ -7,14 +7,14 @@ ghost use mathlib.Core.Path.{_≡_};
 ghost use Prim.Native.Nat.{_%_, _≤_};
 ghost use lib.ListN.{length};
 ghost use Rattle.model.specs.Calls.{screenAfter, screenAnswer, screenAnswers};
-ghost use Rattle.model.specs.Finite.{digit, differ};
+ghost use Rattle.model.specs.Finite.{digit, unequal};
 ghost use Rattle.model.specs.Numbers.{screenedAs};
 ghost use Rattle.model.specs.Records.{records};
 ghost use Rattle.model.specs.Scripts.{notGone};
 
 // One for a kind that is not gone's.
 fn present(kind: u8) -> u16
-    ensures { λ r. ⌜ (r ≡ digit (differ kind 0)) × (r ≤ 1) ⌝ }
+    ensures { λ r. ⌜ (r ≡ digit (unequal kind 0)) × (r ≤ 1) ⌝ }
 {
     if kind == 0 { 0 } else { 1 }
 }

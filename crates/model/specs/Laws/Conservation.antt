@@ -18,7 +18,7 @@ use Rattle.model.specs.Laws.Updates.{dissolve-length, dissolve-self, pla
 use Rattle.model.specs.Laws.WellFormed.{Alive, WellFormed, alive-in, alive-pos, dissolve-alive, dissolve-same, dissolve-wf, place-alive, place-same}
 use Rattle.model.specs.Records.{Capability, at, cap-in, cap-open, cap-out, parentOf, records}
 use Rattle.model.specs.Refusals.{pass}
-use Rattle.model.specs.Scripts.{Order, afterOrders, doneBy, howMany, kindOf, notGone, outcomes}
+use Rattle.model.specs.Scripts.{Step, afterList, doneBy, howMany, kindOf, notGone, outcomes}
 use Rattle.model.specs.Steps.{Outcome, dissolve, effect, met, move, outcome, place, step, stepBytes, unmet}
 use Rattle.model.specs.Validity.{validity}
 use Rattle.model.specs.declared.Rec.{Rec}
@@ -97,9 +97,9 @@ taken-kinds (met cap-out) = refl
 taken-kinds (met cap-open) = refl
 
 -- "Records not gone at the end equal those at the start, minus ins, minus outs, minus twice the opens."
-pub run-notGone : (permit : Permit) (ms : List Order) (s : List ℕ) → validity s ≡ pass →
-    notGone (records (afterOrders permit s ms)) + howMany 2 (outcomes permit s ms) + howMany 3 (outcomes permit s ms) + 2 * howMany 4 (outcomes permit s ms) ≡ notGone (records s)
-unfolding afterOrders outcomes howMany
+pub run-notGone : (permit : Permit) (ms : List Step) (s : List ℕ) → validity s ≡ pass →
+    notGone (records (afterList permit s ms)) + howMany 2 (outcomes permit s ms) + howMany 3 (outcomes permit s ms) + 2 * howMany 4 (outcomes permit s ms) ≡ notGone (records s)
+unfolding afterList outcomes howMany
 run-notGone permit [] s v = omega arith
 run-notGone permit (m ∷ ms) s v =
     let o = outcome permit (records s) (m .actor) (m .partner) in

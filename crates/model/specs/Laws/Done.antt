@@ -16,7 +16,7 @@ use Rattle.model.specs.Laws.Updates.{dissolve-length, place-length}
 use Rattle.model.specs.Laws.WellFormed.{Alive, SameBut, WellFormed, alive-pos, and-left, and-right, dissolve-same, dissolve-wf, place-high, place-parent-other, place-same, place-wf}
 use Rattle.model.specs.Records.{Capability, at, cap-in, cap-open, cap-out, capability, count, isAmbient, nested, parentOf, records}
 use Rattle.model.specs.Refusals.{pass}
-use Rattle.model.specs.Scripts.{Order, afterOrders}
+use Rattle.model.specs.Scripts.{Step, afterList}
 use Rattle.model.specs.Steps.{Outcome, decide, dissolve, effect, fit, met, move, outcome, outcomeBy, place, ready, rewritten, stands, step, stepBytes, unmet}
 use Rattle.model.specs.Validity.{validity}
 use Rattle.model.specs.declared.Rec.{Rec}
@@ -239,7 +239,7 @@ step-valid permit s c b v = go (outcome permit (records s) c b) refl
     go (unmet n) e = v
     go (met k) e = wf-valid (move-wf (valid-wf s v) k (outcome-done k e)) (omega (arith, move-length k (records s) c b, size))
 
-pub orders-valid : (permit : Permit) (ms : List Order) (s : List ℕ) → validity s ≡ pass → validity (afterOrders permit s ms) ≡ pass
-unfolding afterOrders
-orders-valid permit [] s v = v
-orders-valid permit (m ∷ ms) s v = orders-valid permit ms _ (step-valid permit s (m .actor) (m .partner) v)
+pub list-valid : (permit : Permit) (ms : List Step) (s : List ℕ) → validity s ≡ pass → validity (afterList permit s ms) ≡ pass
+unfolding afterList
+list-valid permit [] s v = v
+list-valid permit (m ∷ ms) s v = list-valid permit ms _ (step-valid permit s (m .actor) (m .partner) v)

@@ -14,7 +14,7 @@ use Rattle.model.specs.Finite.{every}
 use Rattle.model.specs.Laws.Boundary.{Closed, environment-clear, sealed-closed, suspect-guarded}
 use Rattle.model.specs.Laws.Bytes.{records-encode, valid-wf}
 use Rattle.model.specs.Laws.Checks.{answer-done, answer-value, need-make, need-pass, then-make, then-pass}
-use Rattle.model.specs.Laws.Done.{orders-valid, step-records, step-valid}
+use Rattle.model.specs.Laws.Done.{list-valid, step-records, step-valid}
 use Rattle.model.specs.Laws.Holding.{Holds, holds-complete, holds-sound}
 use Rattle.model.specs.Laws.Lists.{after-steps, answer-at, given-steps, single-steps}
 use Rattle.model.specs.Laws.Sheet.{by-hidden, sheet-hidden}
@@ -25,7 +25,7 @@ use Rattle.model.specs.Noninterference.{Demand3, Event, OnSheet, Suspect
 use Rattle.model.specs.Observer.{sheet, sheetOf}
 use Rattle.model.specs.Records.{at, byte, encode, isAmbient, records}
 use Rattle.model.specs.Refusals.{answer, content, done, pass}
-use Rattle.model.specs.Scripts.{Order, afterOrders}
+use Rattle.model.specs.Scripts.{Step, afterList}
 use Rattle.model.specs.Steps.{answerOf, outcome, step, stepBytes}
 use Rattle.model.specs.Tables.{Table, bits, isBoundary, isHigh, parts, policyRight, suspects, tableRight}
 use Rattle.model.specs.Validity.{validity}
@@ -68,7 +68,7 @@ unfolding sheetOf
 sheet-records s table = records-encode _
 
 -- steps on records, in order
-unfoldable pub walk : Permit → List Rec → List Order → List Rec
+unfoldable pub walk : Permit → List Rec → List Step → List Rec
 walk permit its [] = its
 walk permit its (m ∷ ms) = walk permit (step permit its (m .actor) (m .partner)) ms
 
@@ -84,15 +84,15 @@ module _ {permit : Permit} {policy : List ℕ} {T : Table} where
     holding = rw (step-records permit s c b) (step-holds (valid-wf s (w .valid)) (w .holding) c b);
   }
 
-  pub guarding-orders : (ms : List Order) (s : List ℕ) → Guarding permit policy T s → Guarding permit policy T (afterOrders permit s ms)
-  unfolding afterOrders
-  guarding-orders [] s w = w
-  guarding-orders (m ∷ ms) s w = guarding-orders ms _ (guarding-step s w (m .actor) (m .partner))
+  pub guarding-list : (ms : List Step) (s : List ℕ) → Guarding permit policy T s → Guarding permit policy T (afterList permit s ms)
+  unfolding afterList
+  guarding-list [] s w = w
+  guarding-list (m ∷ ms) s w = guarding-list ms _ (guarding-step s w (m .actor) (m .partner))
 
   module _ (clear : T .S 0 ≡ false) where
     -- the sheet after steps is the steps of the sheet
-    pub sheet-walk : (ms : List Order) (s : List ℕ) → Guarding permit policy T s → sheet (records (afterOrders permit s ms)) (T .S) ≡ walk permit (sheet (records s) (T .S)) ms
-    unfolding afterOrders walk
+    pub sheet-walk : (ms : List Step) (s : List ℕ) → Guarding permit policy T s → sheet (records (afterList permit s ms)) (T .S) ≡ walk permit (sheet (records s) (T .S)) ms
+    unfolding afterList walk
     sheet-walk [] s w = refl
     sheet-walk (m ∷ ms) s w =
         sheet-walk ms _ (guarding-step s w (m .actor) (m .partner))
@@ -105,24 +105,24 @@ module _ {permit : Permit} {policy : List ℕ} {T : Table} where
 
     -- two itineraries with equal sheets, after the same steps
     module _ (x y : List ℕ) (wx : Guarding permit policy T x) (wy : Guarding permit policy T y) (same : sheet (records x) (T .S) ≡ sheet (records y) (T .S)) where
-      pub sheets-same : (ms : List Order) → sheet (records (afterOrders permit x ms)) (T .S) ≡ sheet (records (afterOrders permit y ms)) (T .S)
+      pub sheets-same : (ms : List Step) → sheet (records (afterList permit x ms)) (T .S) ≡ sheet (records (afterList permit y ms)) (T .S)
       sheets-same ms = sheet-walk ms x wx ∙ ap (λ l. walk permit l ms) same ∙ sym (sheet-walk ms y wy)
 
-      pub outcomes-same : (ms : List Order) (c b : ℕ) → at (sheet (records (afterOrders permit x ms)) (T .S)) c .kind ≢ 0 →
-          outcome permit (records (afterOrders permit x ms)) c b ≡ outcome permit (records (afterOrders permit y ms)) c b
+      pub outcomes-same : (ms : List Step) (c b : ℕ) → at (sheet (records (afterList permit x ms)) (T .S)) c .kind ≢ 0 →
+          outcome permit (records (afterList permit x ms)) c b ≡ outcome permit (records (afterList permit y ms)) c b
       outcomes-same ms c b n =
-          sym (outcome-shown (afterOrders permit x ms) (guarding-orders ms x wx) c b n)
+          sym (outcome-shown (afterList permit x ms) (guarding-list ms x wx) c b n)
           ∙ ap (λ l. outcome permit l c b) (sheets-same ms)
-          ∙ outcome-shown (afterOrders permit y ms) (guarding-orders ms y wy) c b (rw (sheets-same ms) at n)
+          ∙ outcome-shown (afterList permit y ms) (guarding-list ms y wy) c b (rw (sheets-same ms) at n)
 
 -- subject reduction: an itinerary stays valid, and an accepted table accepted, after every list of events
 pub valid-after : (es : List Event) (s : List ℕ) → validity s ≡ pass → validity (after s es) ≡ pass
-valid-after es s v = rw (after-steps es s v) (orders-valid free (allSteps es) s v)
+valid-after es s v = rw (after-steps es s v) (list-valid free (allSteps es) s v)
 
 pub accepted-after : (es : List Event) (s policy table : List ℕ) → checkAnswer s policy table ≡ done tt → checkAnswer (after s es) policy table ≡ done tt
 accepted-after es s policy table h =
     let w = accepted s policy table h in
-    let k = guarding-orders (allSteps es) s (record { valid = w .valid; holding = w .holding }) in
+    let k = guarding-list (allSteps es) s (record { valid = w .valid; holding = w .holding }) in
     rw (after-steps es s (w .valid)) (accept _ policy table (record { valid = k .valid; policy-right = w .policy-right; table-right = w .table-right; holding = k .holding }))
 
 -- demand 3
@@ -165,7 +165,7 @@ noninterference policy table x y size hx hy v same es = record {
     same′ : sheet (records x) (T .S) ≡ sheet (records y) (T .S)
     same′ = sym (sheet-records x table) ∙ ap records same ∙ sheet-records y table
 
-    sheets-at : (ms : List Order) → sheetOf (afterOrders free x ms) table ≡ sheetOf (afterOrders free y ms) table
+    sheets-at : (ms : List Step) → sheetOf (afterList free x ms) table ≡ sheetOf (afterList free y ms) table
     sheets-at ms = ap encode (sheets-same clear x y sx sy same′ ms)
 
     sheets-after : (es : List Event) → sheetOf (after x es) table ≡ sheetOf (after y es) table
@@ -178,7 +178,7 @@ noninterference policy table x y size hx hy v same es = record {
         ∙ ap answerOf (outcomes-same clear x y sx sy same′ (take n (allSteps es)) _ _ (λ k. on (shown k)))
         ∙ sym (ap (λ a. getD a n 0) (given-steps es y (ay .valid)) ∙ answer-at free y (allSteps es) n l _)
       where
-        shown : at (sheet (records (afterOrders free x (take n (allSteps es)))) (T .S)) (stepAt es n .actor) .kind ≡ 0 → at (records (sheetOf (before x es n) table)) (stepAt es n .actor) .kind ≡ 0
+        shown : at (sheet (records (afterList free x (take n (allSteps es)))) (T .S)) (stepAt es n .actor) .kind ≡ 0 → at (records (sheetOf (before x es n) table)) (stepAt es n .actor) .kind ≡ 0
         shown k = ap (λ s. at (records (sheetOf s table)) (stepAt es n .actor) .kind) (single-steps (take n (allSteps es)) x (ax .valid)) ∙ ap (λ l. at l (stepAt es n .actor) .kind) (sheet-records _ table) ∙ k
 
 -- and so every high ambient: under an accepted table a high label is suspect
