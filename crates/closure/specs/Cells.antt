@@ -3,7 +3,7 @@ use Prim.Native.Nat.{_%_, _*_, _+_, _/_, _<_, ℕ}
 use lib.Bits.{bitAnd, bitOr}
 use lib.ListN.{getD, length, set}
 use lib.Seq.{getD-set-other, getD-set-same}
-use mathlib.Core.Bool.{Bool, _||_, true}
+use mathlib.Core.Bool.{_||_, true}
 use mathlib.Core.List.{List}
 use mathlib.Core.Path.{_∙_, _≡_, ap, ap₂, sym}
 use native.Mathlib.Decide.{ℕ-discrete}
@@ -12,8 +12,8 @@ use Rattle.model.specs.Laws.Bit.{and-bit, or-bit}
 use Rattle.model.specs.Laws.Checks.{and-make, or-cases, or-right}
 use Rattle.model.specs.Laws.WellFormed.{and-left, and-right}
 use Rattle.model.specs.Tables.{bitAt, testBit}
+use Rattle.tables.specs.Bit.{or-left}
 use Rattle.tables.specs.Grow.{Grown, Inside, Set}
-use Rattle.tables.specs.Bit.{bit-no, bit-yes, or-left}
 
 -- the words of 64 bits as a set
 abbrev pub Bits : List ℕ → Set

@@ -1,26 +1,25 @@
 -- What the word operations and their loops do to the table's set of bits.
-use Prim.Native.Nat.{_%_, _*_, _+_, _-_, _/_, _<_, _^_, _≤_, ℕ}
+use Prim.Native.Nat.{_%_, _*_, _+_, _-_, _<_, _^_, _≤_, ℕ}
 use borrow.Author.Tests.{eq-eqb, eqb-true}
 use lib.Bits.{bitAnd, bitOr}
 use lib.Dec.{eqb}
-use lib.ListN.{getD, length, length-set, set}
+use lib.ListN.{getD, length, length-set}
 use mathlib.Core.Bool.{Bool, false, true, true≢false}
 use mathlib.Core.List.{List}
-use mathlib.Core.Logic.{_⊎_, inl, inr, ⊎-elim}
+use mathlib.Core.Logic.{_⊎_, ⊎-elim}
 use mathlib.Core.Path.{_∙_, _≡_, ap, refl, subst, sym}
 use native.Mathlib.Decide.{decLt, ℕ-discrete}
 use native.Mathlib.Nat.{eq-or-lt-of-le, le-of-suc-le-suc, not-suc-le-zero}
 use native.Mathlib.Numerals.{add-one}
 use native.Mathlib.Omega.{arith}
-use Rattle.model.specs.Laws.Bit.{and-bit, one-shl, or-bit, pow-bit, zero-bit}
-use Rattle.model.specs.Laws.Checks.{and-make, or-cases, or-right}
-use Rattle.model.specs.Laws.WellFormed.{and-left}
-use Rattle.model.specs.Tables.{testBit}
 use Rattle.closure.specs.Cells.{Bits, Word, and-in, and-l, and-r, at-word, or-word, orAt, word-make, word-use}
-use Rattle.tables.specs.Grow.{Below, Grown, Inside, Set, chain, grown-none, loop-end, loop-next, loop-skip, recast}
 use Rattle.closure.specs.Lowest.{Lowest}
-use Rattle.closure.specs.Rules.{Admits, Closed, Column, Enters, I, InRule, Leaves, Merges, OpenRule, Opens, OutRule, Rule, Rules, RulesAt, S, Turn}
+use Rattle.closure.specs.Rules.{Admits, Closed, Column, Enters, I, InRule, Leaves, Merges, OpenRule, Opens, OutRule, Rule, Rules, RulesAt, Turn}
+use Rattle.model.specs.Laws.Bit.{one-shl, or-bit, pow-bit, zero-bit}
+use Rattle.model.specs.Laws.Checks.{or-cases, or-right}
+use Rattle.model.specs.Tables.{testBit}
 use Rattle.tables.specs.Bit.{or-left}
+use Rattle.tables.specs.Grow.{Below, Grown, Inside, Set, chain, grown-none, loop-end, loop-next, loop-skip, recast}
 
 never : {C : Type 0} (b : Bool) → b ≡ true → b ≡ false → C
 never b p q = absurd (true≢false (sym p ∙ q))
@@ -200,10 +199,6 @@ module _ (w : List ℕ) (p b : ℕ) (l : length w ≡ 193) (hp : p < 64) (hb : b
 
     pub merge-no : testBit (getD v 192 0) b ≡ false → Grown (Merges p b) (Merges p b) (Bits w) (Bits v)
     merge-no t = rw e (merge-row (rw e at t))
-
-pub length-joined : (w : List ℕ) (p b : ℕ) → length (joined w p b) ≡ length w
-unfolding joined
-length-joined w p b = simp length-set
 
 -- ---- a column
 

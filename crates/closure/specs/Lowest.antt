@@ -3,7 +3,7 @@ use Prim.Native.Nat.{_%_, _-_, _/_, _<_, _^_, suc, suc-le-suc, zero, ℕ}
 use lib.Arith.{lt-one}
 use lib.Count.{trailingZeros, under}
 use lib.Dec.{eqb}
-use mathlib.Core.Bool.{Bool, true, true≢false}
+use mathlib.Core.Bool.{true, true≢false}
 use mathlib.Core.Path.{_∙_, _≡_, ap, refl, subst, sym}
 use native.Mathlib.Nat.{pow-suc, zero-lt-suc}
 use native.Mathlib.Omega.{arith}

@@ -4,7 +4,7 @@ use lib.Arith.{digits-div, digits-mod}
 use lib.Count.{ones, ones-le}
 use lib.ListN.{drop, getD, length}
 use lib.Seq.{drop-cons, drop-length}
-use mathlib.Core.Bool.{Bool, true, true≢false}
+use mathlib.Core.Bool.{true, true≢false}
 use mathlib.Core.List.{List, [], _∷_}
 use mathlib.Core.Path.{_∙_, _≡_, ap, ap₂, refl, subst, sym}
 use native.Mathlib.Decide.{decLt}

@@ -38,6 +38,7 @@ module _ (table : List ℕ) (label : ℕ) where
           let s : length table ≡ 1544 = eqb-true _ _ (and-left _ _ e) in
           let l : label ≤ 63 = leb-true _ _ (and-right (eqb (length table) 1544) _ e) in
           length-take-le 16 (drop (16 * label) table) (omega (arith, length-drop (16 * label) table))
+
       go : (t : Bool) → (tableSized table && leb label 63) ≡ t → values 0 0 0 0 0 0 ≡ rowBy t label
       go true e = absurd (h (row-by true e ∙ full e))
       go false e = refl

@@ -239,7 +239,12 @@ pub extern "C" fn hub_row(table: &[u8], label: u8) -> HubResult
 // Makes the table, gives its verdict and runs the script; v0 is 256 times the verdict's number plus its label, v1 the
 // bits set, v2, v3 and v4 the ins, outs and opens done, v5 the records not gone.
 #[no_mangle]
-pub extern "C" fn hub_screen(it: &mut [u8], policy: &[u8], script: &[u8], answers: &mut [u8]) -> HubResult
+pub extern "C" fn hub_screen(
+    it: &mut [u8],
+    policy: &[u8],
+    script: &[u8],
+    answers: &mut [u8],
+) -> HubResult
     ensures { λ r. ⌜ (r ≡ packed screens (screenAnswer (now (it .entry)) (now (policy .entry)) (now (script .entry)) (now (answers .entry))))
         × (now (it .exit) ≡ screenAfter (now (it .entry)) (now (policy .entry)) (now (script .entry)) (now (answers .entry)))
         × (now (answers .exit) ≡ screenAnswers (now (it .entry)) (now (policy .entry)) (now (script .entry)) (now (answers .entry))) ⌝ }

@@ -1,5 +1,5 @@
 -- The parts of the check make up when a table holds.
-use Prim.Native.Nat.{_%_, _*_, _+_, _-_, _/_, _<_, _≤_, suc, ℕ}
+use Prim.Native.Nat.{_%_, _*_, _+_, _-_, _/_, _<_, _≤_, ℕ}
 use borrow.Author.Tests.{eq-eqb, leb-true, ne-eqb}
 use lib.Bits.{bitOr}
 use lib.ListN.{drop, getD, length, take}
@@ -21,16 +21,16 @@ use Rattle.model.specs.Laws.Bytes.{length-records, valid-wf}
 use Rattle.model.specs.Laws.Checks.{and-make, onlyIf-make, onlyIf-use}
 use Rattle.model.specs.Laws.Done.{cap-alive}
 use Rattle.model.specs.Laws.Finite.{every-make, every-use, someOf-make, someOf-use}
-use Rattle.model.specs.Laws.Holding.{Holds, Rule, holds-complete, holds-sound}
+use Rattle.model.specs.Laws.Holding.{holds-complete, holds-sound}
 use Rattle.model.specs.Laws.WellFormed.{WellFormed, alive-in, amb-nested, and-left, and-right, label-small, shape, shape-label, shape-named}
-use Rattle.model.specs.Records.{Capability, at, cap-in, cap-open, cap-out, capability, count, decode, isAmbient, nested, records}
+use Rattle.model.specs.Records.{at, cap-in, cap-open, cap-out, capability, count, decode, isAmbient, records}
 use Rattle.model.specs.Refusals.{pass}
-use Rattle.model.specs.Tables.{Table, bitAt, bits, isHigh, parts, placeH, placeI, placeS, suspects, testBit}
+use Rattle.model.specs.Tables.{Table, bitAt, bits, isHigh, parts, placeH, placeI, testBit}
 use Rattle.model.specs.Validity.{nameBy, nameRight, validity}
 use Rattle.model.specs.declared.Rec.{Rec}
 use Rattle.partners.specs.Facts.{AllRules, Facts, Wanted, bearing, nameCell, nestCell, standing}
-use Rattle.partners.specs.Fold.{Aims, Folds, Source, slot}
-use Rattle.partners.specs.Laws.{Capable, RuleOf, cap-kind, cap-two, capable, closed-rule, kind-cap, kindOf, names, rules-closed, slot-kind, slot-label}
+use Rattle.partners.specs.Fold.{Folds, slot}
+use Rattle.partners.specs.Laws.{RuleOf, cap-kind, cap-two, capable, closed-rule, kind-cap, kindOf, names, rules-closed, slot-kind, slot-label}
 use Rattle.partners.specs.Standing.{facts-holds, holds-facts, holds-rules, read-at}
 use Rattle.tables.specs.Bit.{bool-iff, is-false}
 use Rattle.tables.specs.Grow.{Set}
@@ -49,9 +49,10 @@ module _ (its : List Rec) (u : Set) where
   pub facts-of : (policy : List ℕ) → every 64 (isHigh policy) (parts u .S) ≡ true → nestsHold its (parts u) ≡ true → Facts its policy u
   unfolding Wanted stood nestCell nameCell bearing placeH
   facts-of policy h n = record {
-      nests = λ x l t. and-left _ _ (nests-facts n x l t);
-      names = λ x l t. onlyIf-use (isAmbient (at its (x + 1))) _ (and-right (parts u .I (container its (x + 1)) (at its (x + 1) .label)) _ (nests-facts n x l (bearing-stands x t))) t;
-      highs = every-use (isHigh policy) (parts u .S) 64 h }
+    nests = λ x l t. and-left _ _ (nests-facts n x l t);
+    names = λ x l t. onlyIf-use (isAmbient (at its (x + 1))) _ (and-right (parts u .I (container its (x + 1)) (at its (x + 1) .label)) _ (nests-facts n x l (bearing-stands x t))) t;
+    highs = every-use (isHigh policy) (parts u .S) 64 h;
+  }
 
   pub facts-nests : {policy : List ℕ} → Facts its policy u → nestsHold its (parts u) ≡ true
   unfolding Wanted nestsHold stood nestCell nameCell bearing placeH
@@ -76,30 +77,30 @@ module _ {its : List Rec} (wf : WellFormed its) (u : Set) (p : List ℕ) (F : Fo
       let m : 64 + (at its j .label - 64) ≡ at its j .label = omega arith in
       let i : 128 + (at its j .label - 64) ≡ slot (at its j) = omega arith in
       let bit : testBit (getD p (128 + (at its j .label - 64)) 0) b ≡ true =
-            ap (λ (x : ℕ). testBit (getD p x 0) b) i ∙ F .has j (slot (at its j)) b (alive-in its j (cap-alive its j cap-open e)) (record { capable = two; here = refl; below = lb; names = hb }) in
+      ap (λ (x : ℕ). testBit (getD p x 0) b) i ∙ F .has j (slot (at its j)) b (alive-in its j (cap-alive its j cap-open e)) (record { capable = two; here = refl; below = lb; names = hb }) in
       let o : opened (parts u) p q b ≡ true =
-            someOf-make (λ t. parts u .I q (64 + t)) (λ t. testBit (getD p (128 + t) 0) b) 64 (at its j .label - 64) (omega arith) (ap (λ (x : ℕ). parts u .I q x) m ∙ iq) bit in
+      someOf-make (λ t. parts u .I q (64 + t)) (λ t. testBit (getD p (128 + t) 0) b) 64 (at its j .label - 64) (omega arith) (ap (λ (x : ℕ). parts u .I q x) m ∙ iq) bit in
       let w : pairHolds (parts u) q b ≡ true =
-            every-use (λ b. parts u .I q b && opened (parts u) p q b) (λ b. pairHolds (parts u) q b) 64
-            (every-use (λ p. true) (λ q. opensAt (parts u) (opened (parts u) p q) q) 64 h q lq refl) b lb (and-make iqb o) in
+      every-use (λ b. parts u .I q b && opened (parts u) p q b) (λ b. pairHolds (parts u) q b) 64
+      (every-use (λ p. true) (λ q. opensAt (parts u) (opened (parts u) p q) q) 64 h q lq refl) b lb (and-make iqb o) in
       (every-use (λ k. parts u .I b k) (λ k. parts u .I q k) 128 (and-left _ _ w), onlyIf-use (parts u .S b) (parts u .S q) (and-right (every 128 (λ k. parts u .I b k) (λ k. parts u .I q k)) _ w))
 
   open-make : AllRules its u → opensHold (parts u) p ≡ true
   unfolding opensHold opensAt opened pairHolds kindOf
   open-make f = every-make (λ p. true) (λ q. opensAt (parts u) (opened (parts u) p q) q) 64 (λ q lq _.
       every-make (λ b. parts u .I q b && opened (parts u) p q b) (λ b. pairHolds (parts u) q b) 64 (λ b lb h.
-        let o = someOf-use (λ t. parts u .I q (64 + t)) (λ t. testBit (getD p (128 + t) 0) b) 64 (and-right (parts u .I q b) _ h) in
-        let t = o .0 in
-        let lt = o .1 in
-        let s = F .only (128 + t) b (o .3) in
-        let r = at its (s .from) in
-        let able = capable r (wf .shaped (s .from)) (s .aims .capable) in
-        let k = slot-kind r able (s .aims .capable) (128 + t) (s .aims .here) in
-        let l = slot-label r able (s .aims .capable) (128 + t) (s .aims .here) in
-        let e : r .kind ≡ 4 = omega arith in
-        let m : 64 + t ≡ r .label = omega arith in
-        let w = f (s .from) cap-open (kind-cap (r .kind) cap-open e) b q lb lq refl (ap (λ (x : ℕ). parts u .I q x) (sym m) ∙ o .2) (and-left _ _ h) (s .aims .names) in
-        and-make (every-make (λ k. parts u .I b k) (λ k. parts u .I q k) 128 (w .0)) (onlyIf-make (parts u .S b) (parts u .S q) (w .1))))
+      let o = someOf-use (λ t. parts u .I q (64 + t)) (λ t. testBit (getD p (128 + t) 0) b) 64 (and-right (parts u .I q b) _ h) in
+      let t = o .0 in
+      let lt = o .1 in
+      let s = F .only (128 + t) b (o .3) in
+      let r = at its (s .from) in
+      let able = capable r (wf .shaped (s .from)) (s .aims .capable) in
+      let k = slot-kind r able (s .aims .capable) (128 + t) (s .aims .here) in
+      let l = slot-label r able (s .aims .capable) (128 + t) (s .aims .here) in
+      let e : r .kind ≡ 4 = omega arith in
+      let m : 64 + t ≡ r .label = omega arith in
+      let w = f (s .from) cap-open (kind-cap (r .kind) cap-open e) b q lb lq refl (ap (λ (x : ℕ). parts u .I q x) (sym m) ∙ o .2) (and-left _ _ h) (s .aims .names) in
+      and-make (every-make (λ k. parts u .I b k) (λ k. parts u .I q k) 128 (w .0)) (onlyIf-make (parts u .S b) (parts u .S q) (w .1))))
 
   pub rules-of : Closed 128 p u → opensHold (parts u) p ≡ true → AllRules its u
   unfolding slot kindOf
@@ -131,8 +132,9 @@ module _ (s t w p : List ℕ) (v : validity s ≡ pass) (e : Bits w ≡ bits t) 
 
   pub rules-by : (r : Bool) → opensHold (parts (bits t)) p ≡ true → Decides r (Closed 128 p (Bits w)) → Decides r (AllRules (records s) (bits t))
   rules-by r h d = record {
-      holds = λ x. rules-of (valid-wf s v) (bits t) p folded (subst (λ (y : Set). Closed 128 p y) e (d .holds x)) h;
-      passes = λ f. d .passes (subst (λ (y : Set). Closed 128 p y) (sym e) (rules-words (valid-wf s v) (bits t) p folded f)) }
+    holds = λ x. rules-of (valid-wf s v) (bits t) p folded (subst (λ (y : Set). Closed 128 p y) e (d .holds x)) h;
+    passes = λ f. d .passes (subst (λ (y : Set). Closed 128 p y) (sym e) (rules-words (valid-wf s v) (bits t) p folded f));
+  }
 
 -- ---- the whole
 
@@ -231,9 +233,9 @@ rows-same : (t : List ℕ) (b p n m : ℕ) → n ≡ 16 → m ≡ 16 →
     every 128 (λ k. bits (take n (drop (16 * b) t)) k) (λ k. bits (take m (drop (16 * p) t)) k) ≡ every 128 (λ k. parts (bits t) .I b k) (λ k. parts (bits t) .I p k)
 rows-same t b p n m e f = bool-iff _ _
     (λ h. every-make (λ k. parts (bits t) .I b k) (λ k. parts (bits t) .I p k) 128 (λ k l x.
-      sym (row-bit t p m k f l) ∙ every-use (λ k. bits (take n (drop (16 * b) t)) k) (λ k. bits (take m (drop (16 * p) t)) k) 128 h k l (row-bit t b n k e l ∙ x)))
+    sym (row-bit t p m k f l) ∙ every-use (λ k. bits (take n (drop (16 * b) t)) k) (λ k. bits (take m (drop (16 * p) t)) k) 128 h k l (row-bit t b n k e l ∙ x)))
     (λ h. every-make (λ k. bits (take n (drop (16 * b) t)) k) (λ k. bits (take m (drop (16 * p) t)) k) 128 (λ k l x.
-      row-bit t p m k f l ∙ every-use (λ k. parts (bits t) .I b k) (λ k. parts (bits t) .I p k) 128 h k l (sym (row-bit t b n k e l) ∙ x)))
+    row-bit t p m k f l ∙ every-use (λ k. parts (bits t) .I b k) (λ k. parts (bits t) .I p k) 128 h k l (sym (row-bit t b n k e l) ∙ x)))
 
 -- the parts from 16 b and from 16 p on, 16 bytes each
 pub rows-inside : (t : List ℕ) (b p : ℕ) →

@@ -121,13 +121,13 @@ whole-record t i l h =
     let r = decode t (i + 1) in
     let long : 8 ≤ length (drop (8 * i) t) = omega (arith, length-drop (8 * i) t) in
     let eight : encode (decode t (i + 1) ∷ []) ≡ take 8 (drop (8 * i) t) =
-          ext-getD 0 _ _ (length-encode (decode t (i + 1) ∷ []) ∙ sym (length-take-le 8 (drop (8 * i) t) long))
-          (λ k q. let w : k < 8 = omega (arith, length-encode (decode t (i + 1) ∷ [])) in
-            let z : k ≡ 8 * 0 + k = omega arith in
-            ap (byte (encode (decode t (i + 1) ∷ []))) z ∙ byte-encode (decode t (i + 1) ∷ []) 0 k (omega arith) w ∙ h k w ∙ sym (getD-take 8 (drop (8 * i) t) k 0 w ∙ getD-drop (8 * i) t k 0)) in
+    ext-getD 0 _ _ (length-encode (decode t (i + 1) ∷ []) ∙ sym (length-take-le 8 (drop (8 * i) t) long))
+    (λ k q. let w : k < 8 = omega (arith, length-encode (decode t (i + 1) ∷ [])) in
+    let z : k ≡ 8 * 0 + k = omega arith in
+    ap (byte (encode (decode t (i + 1) ∷ []))) z ∙ byte-encode (decode t (i + 1) ∷ []) 0 k (omega arith) w ∙ h k w ∙ sym (getD-take 8 (drop (8 * i) t) k 0 w ∙ getD-drop (8 * i) t k 0)) in
     rw (n, m, eight)
     (ap (λ x. take (8 * i) t ++ (take 8 (drop (8 * i) t) ++ x)) (sym (drop-drop 8 (8 * i) t))
-     ∙ ap (λ x. take (8 * i) t ++ x) (take-append-drop 8 (drop (8 * i) t)) ∙ take-append-drop (8 * i) t)
+    ∙ ap (λ x. take (8 * i) t ++ x) (take-append-drop 8 (drop (8 * i) t)) ∙ take-append-drop (8 * i) t)
 
 -- in a pass over a valid itinerary, the record that comes next is still whole
 pub pass-whole : (f : ℕ → Rec → Rec) (s : List ℕ) (i : ℕ) (t : List ℕ) → t ≡ written (update f (records s)) i s → ((j : ℕ) → byte s j < 256) → validity s ≡ pass → i < count s →
@@ -136,4 +136,4 @@ unfolding count
 pass-whole f s i t e small v l =
     whole-record t i (omega (arith, pass-length f s s i t e (omega arith) (omega arith)))
     (λ k q. ap (λ r. byteIn r k) (pass-read f s s i t e (omega arith) ∙ ap (decode s) (add-one i)) ∙ back s small (passed s v) i k l q
-      ∙ sym (ap (λ x. byte x (8 * i + k)) e ∙ byte-past (update f (records s)) s i k (omega (arith, length-update f (records s), length-records s))))
+    ∙ sym (ap (λ x. byte x (8 * i + k)) e ∙ byte-past (update f (records s)) s i k (omega (arith, length-update f (records s), length-records s))))

@@ -1,42 +1,38 @@
 -- Bits set one by one in a table of bytes, a part of it lent on, and the least table.
-use Prim.Native.Nat.{_%_, _*_, _+_, _-_, _/_, _<_, _^_, _≤_, suc, zero, ℕ}
-use borrow.Author.Tests.{eq-eqb, eqb-true, le-leb, le-ltb, lt-leb, lt-ltb, ne-eqb}
-use lib.Dec.{eqb, leb, ltb}
+use Prim.Native.Nat.{_%_, _*_, _+_, _-_, _/_, _<_, _^_, _≤_, ℕ}
+use borrow.Author.Tests.{eq-eqb, eqb-true, le-leb, le-ltb, lt-leb, lt-ltb}
+use lib.Dec.{leb, ltb}
 use lib.ListN.{List·getD-append, List·getD-eq-default, drop, getD, length, length-drop, length-take, take}
 use lib.Seq.{getD-append-add, getD-drop, getD-take, length-take-le}
 use mathlib.Core.Bool.{Bool, _||_, false, true, true≢false}
 use mathlib.Core.List.{List, _++_}
 use mathlib.Core.Logic.{⊎-elim}
-use mathlib.Core.Option.{some}
 use mathlib.Core.Path.{_∙_, _≡_, ap, ap₂, refl, subst, subst₂, sym}
-use native.Mathlib.Decide.{decLe, decLt, ℕ-discrete}
+use native.Mathlib.Decide.{decLt}
 use native.Mathlib.Nat.{eq-or-lt-of-le, le-of-eq, le-of-suc-le-suc, le-trans, min-le-left}
 use native.Mathlib.Numerals.{add-one}
 use native.Mathlib.Omega.{arith}
 use Rattle.closure.specs.Cells.{Bits, Word, or-has, or-word, orAt}
-use Rattle.closure.specs.Rules.{Closed, Rules, InRule, OutRule, OpenRule}
+use Rattle.closure.specs.Rules.{Closed, InRule, OpenRule, OutRule, Rules}
 use Rattle.maker.specs.Facts.{Based, Closes, Filled}
-use Rattle.partners.specs.Facts.{AllRules, Facts, Wanted, bearing, nameCell, nestCell, standing}
-use Rattle.partners.specs.Standing.{facts-holds, holds-facts, holds-rules}
 use Rattle.model.specs.Analysis.{free}
-use Rattle.model.specs.Climbing.{container}
 use Rattle.model.specs.Laws.Bit.{pow-bit, zero-bit}
-use Rattle.model.specs.Laws.Bytes.{at-decode, length-records, shape-kind, valid-wf}
-use Rattle.model.specs.Laws.Checks.{and-make, or-right}
-use Rattle.model.specs.Laws.Containers.{container-small}
+use Rattle.model.specs.Laws.Bytes.{length-records, valid-wf}
+use Rattle.model.specs.Laws.Checks.{or-right}
 use Rattle.model.specs.Laws.Done.{cap-alive}
-use Rattle.model.specs.Laws.Holding.{Fits, Holds}
 use Rattle.model.specs.Laws.Least.{least-table-is}
 use Rattle.model.specs.Laws.Sets.{Narrow}
-use Rattle.model.specs.Laws.WellFormed.{WellFormed, alive-in, alive-pos, amb-nested, labels, named, nested-alive, small}
+use Rattle.model.specs.Laws.WellFormed.{WellFormed, alive-in, named, small}
 use Rattle.model.specs.Least.{leastTable}
-use Rattle.model.specs.Records.{Capability, at, capability, count, decode, isAmbient, nested, records}
+use Rattle.model.specs.Records.{at, count, records}
 use Rattle.model.specs.Refusals.{pass}
-use Rattle.model.specs.Tables.{bitAt, bits, isHigh, parts, placeH, placeI, placeS, testBit}
-use Rattle.model.specs.Validity.{kindRight, validity}
+use Rattle.model.specs.Tables.{bitAt, bits, isHigh, parts, placeH, placeS, testBit}
+use Rattle.model.specs.Validity.{validity}
 use Rattle.model.specs.declared.Rec.{Rec}
+use Rattle.partners.specs.Facts.{Facts, Wanted, bearing, nameCell, nestCell, standing}
 use Rattle.partners.specs.Fold.{Folds, slot}
-use Rattle.partners.specs.Laws.{Capable, RuleOf, cap-two, capable, closed-rule, names, rules-closed, slot-small}
+use Rattle.partners.specs.Laws.{cap-two, capable, closed-rule, names, rules-closed, slot-small}
+use Rattle.partners.specs.Standing.{facts-holds, holds-facts, holds-rules}
 use Rattle.tables.specs.Grow.{Grown, Inside, Set, Smallest}
 
 -- ---- one bit
@@ -44,12 +40,13 @@ use Rattle.tables.specs.Grow.{Grown, Inside, Set, Smallest}
 pub set-cell : (t : List ℕ) (j : ℕ) → j / 8 < length t → Smallest (λ u. u j ≡ true) (bits t) (bits (orAt t (j / 8) (2 ^ (j % 8))))
 unfolding Word
 set-cell t j h = record {
-    keeps = g .keeps;
-    inside = λ u i p. g .inside u i (λ k e b.
-        let q : k % 8 ≡ j % 8 = eqb-true (k % 8) (j % 8) (sym (pow-bit (j % 8) (k % 8)) ∙ b) in
-        let r : k ≡ j = omega arith in
-        ap u r ∙ p);
-    closed = or-has 8 t (j / 8) (2 ^ (j % 8)) h j refl (pow-bit (j % 8) (j % 8) ∙ eq-eqb (j % 8) (j % 8) refl) }
+  keeps = g .keeps;
+  inside = λ u i p. g .inside u i (λ k e b.
+      let q : k % 8 ≡ j % 8 = eqb-true (k % 8) (j % 8) (sym (pow-bit (j % 8) (k % 8)) ∙ b) in
+      let r : k ≡ j = omega arith in
+      ap u r ∙ p);
+  closed = or-has 8 t (j / 8) (2 ^ (j % 8)) h j refl (pow-bit (j % 8) (j % 8) ∙ eq-eqb (j % 8) (j % 8) refl);
+}
   where
     g : Grown (Word 8 (j / 8) (2 ^ (j % 8))) (Word 8 (j / 8) (2 ^ (j % 8))) (bits t) (bits (orAt t (j / 8) (2 ^ (j % 8))))
     g = or-word 8 t (j / 8) (2 ^ (j % 8)) h
@@ -69,9 +66,10 @@ module _ (test : ℕ → Bool) (cell : ℕ → ℕ) where
       Filled test cell n s (bits t) → Filled test cell (n + 1) s (bits t′)
   unfolding Wanted
   filled-yes n {s} t t′ j c q h e g = subst (λ (x : List ℕ). Filled test cell (n + 1) s (bits x)) (sym e) (record {
-      keeps = λ j t. a .keeps j (g .keeps j t);
-      inside = λ u i f. let k : Inside (bits t) u = g .inside u i (λ x l. f x (omega arith)) in a .inside u k (ap u q ∙ f n (omega arith) c);
-      closed = λ x l d. last x n l (λ p. ap (bits (orAt t (j / 8) (2 ^ (j % 8)))) (ap cell p ∙ sym q) ∙ a .closed) (λ m. a .keeps (cell x) (g .closed x m d)) })
+    keeps = λ j t. a .keeps j (g .keeps j t);
+    inside = λ u i f. let k : Inside (bits t) u = g .inside u i (λ x l. f x (omega arith)) in a .inside u k (ap u q ∙ f n (omega arith) c);
+    closed = λ x l d. last x n l (λ p. ap (bits (orAt t (j / 8) (2 ^ (j % 8)))) (ap cell p ∙ sym q) ∙ a .closed) (λ m. a .keeps (cell x) (g .closed x m d));
+  })
     where
       a : Smallest (λ u. u j ≡ true) (bits t) (bits (orAt t (j / 8) (2 ^ (j % 8))))
       a = set-cell t j h
@@ -79,9 +77,10 @@ module _ (test : ℕ → Bool) (cell : ℕ → ℕ) where
   pub filled-no : (n : ℕ) {s s₁ : Set} → test n ≡ false → Filled test cell n s s₁ → Filled test cell (n + 1) s s₁
   unfolding Wanted
   filled-no n c g = record {
-      keeps = g .keeps;
-      inside = λ u i f. g .inside u i (λ x l. f x (omega arith));
-      closed = λ x l d. last x n l (λ e. absurd (true≢false (sym d ∙ ap test e ∙ c))) (λ m. g .closed x m d) }
+    keeps = g .keeps;
+    inside = λ u i f. g .inside u i (λ x l. f x (omega arith));
+    closed = λ x l d. last x n l (λ e. absurd (true≢false (sym d ∙ ap test e ∙ c))) (λ m. g .closed x m d);
+  }
 
 -- a list whose first n numbers, all it has, are 0
 pub zeros : (t : List ℕ) (n : ℕ) → length t ≡ n → ((k : ℕ) → k < n → getD t k 0 ≡ 0) → (i : ℕ) → getD t i 0 ≡ 0
@@ -131,6 +130,7 @@ module _ (t h : List ℕ) (lt : length t ≡ 1544) (lh : length h ≡ 520) where
     where
       clear-at : (x : ℕ) → getD back (j / 8) 0 ≡ getD t x 0 → u j ≡ true
       clear-at x e = absurd (true≢false (sym b ∙ ap (λ (y : ℕ). testBit y (j % 8)) (e ∙ z x) ∙ zero-bit (j % 8)))
+
       go : Dec (j < 8192) → Dec (j < 12352) → u j ≡ true
       go (yes l) d = clear-at (j / 8) (back-low (j / 8) (omega arith))
       go (no d) (yes l) =
@@ -159,23 +159,27 @@ pub based : (s policy t h′ t₃ t₄ : List ℕ) → validity s ≡ pass → (
     Filled (standing (records s)) (nestCell (records s)) (count s) (bits t₃) (bits t₄) → Based (records s) policy (bits t₄)
 unfolding Wanted bearing nameCell bitAt
 based s policy t h′ t₃ t₄ v l z l′ N G E = record {
-    has = record {
-      nests = λ x q p. E .closed x (omega (arith, n)) p;
-      names = λ x q p.
-          let a = small wf (x + 1) p in
-          let b = named wf (x + 1) in
-          E .keeps (8192 + nameCell its x) (G .keeps (8192 + nameCell its x) (part-bit t h′ l l′ (nameCell its x) (omega arith) ∙ N .closed x (omega (arith, n)) p));
-      highs = λ k q p. E .keeps (placeS k) (G .closed k q p) };
-    inside = λ u b. E .inside u (G .inside u
-        (part-only t h′ l l′ z u (N .inside (λ j. u (8192 + j))
-          (λ j c. absurd (true≢false (sym c ∙ ap (λ (x : ℕ). testBit x (j % 8)) (part-clear t (length t - 1024) z (j / 8)) ∙ zero-bit (j % 8))))
-          (λ x q. b .names x (omega (arith, n)))))
-        (b .highs)) (λ x q. b .nests x (omega (arith, n))) }
+  has = record {
+    nests = λ x q p. E .closed x (omega (arith, n)) p;
+    names = λ x q p.
+        let a = small wf (x + 1) p in
+        let b = named wf (x + 1) in
+        E .keeps (8192 + nameCell its x) (G .keeps (8192 + nameCell its x) (part-bit t h′ l l′ (nameCell its x) (omega arith) ∙ N .closed x (omega (arith, n)) p));
+    highs = λ k q p. E .keeps (placeS k) (G .closed k q p);
+  };
+  inside = λ u b. E .inside u (G .inside u
+      (part-only t h′ l l′ z u (N .inside (λ j. u (8192 + j))
+      (λ j c. absurd (true≢false (sym c ∙ ap (λ (x : ℕ). testBit x (j % 8)) (part-clear t (length t - 1024) z (j / 8)) ∙ zero-bit (j % 8))))
+      (λ x q. b .names x (omega (arith, n)))))
+      (b .highs)) (λ x q. b .nests x (omega (arith, n)));
+}
   where
     its : List Rec
     its = records s
+
     n : length (records s) ≡ count s
     n = length-records s
+
     wf : WellFormed (records s)
     wf = valid-wf s v
 
@@ -205,20 +209,23 @@ module _ (s : Set) where
   wide-closed : (m : ℕ) (p : List ℕ) → Closed m p (wide s)
   unfolding Closed Rules InRule OutRule OpenRule
   wide-closed m p i l x lx = record {
-      ins = λ e a b la lb at pa pb bn. (wide-I b a lb (omega arith), λ _. wide-S a);
-      outs = λ e a q la lq at ba pb bn. (wide-I q a lq (omega arith), λ _. wide-S a);
-      opens = λ e b lb pt pb bn. (λ k lk _. wide-I x k lx lk, λ _. wide-S x) }
+    ins = λ e a b la lb at pa pb bn. (wide-I b a lb (omega arith), λ _. wide-S a);
+    outs = λ e a q la lq at ba pb bn. (wide-I q a lq (omega arith), λ _. wide-S a);
+    opens = λ e b lb pt pb bn. (λ k lk _. wide-I x k lx lk, λ _. wide-S x);
+  }
 
 -- the least set closed under the words of partners is the least closed under the rules: H never grows
 pub closes : (its : List Rec) → WellFormed its → (s s′ : Set) (p : List ℕ) → Folds its (parts s .H) (length its) p → Smallest (Closed 192 p) s s′ → Closes its s s′
 unfolding placeH
 closes its wf s s′ p F L = record {
-    keeps = L .keeps;
-    inside = λ u i f. L .inside u i (rules-closed wf (parts s .H) (length its) p F u (λ b n lb ln h. i (8192 + (64 * b + n)) h) 192 (λ j k e l. f j k e));
-    closed = λ j k e. closed-rule wf (parts s .H) (length its) p F s′ back-H 192 (L .closed) j k (alive-in its j (cap-alive its j k e)) e (slot-at j (cap-two _ k e)) }
+  keeps = L .keeps;
+  inside = λ u i f. L .inside u i (rules-closed wf (parts s .H) (length its) p F u (λ b n lb ln h. i (8192 + (64 * b + n)) h) 192 (λ j k e l. f j k e));
+  closed = λ j k e. closed-rule wf (parts s .H) (length its) p F s′ back-H 192 (L .closed) j k (alive-in its j (cap-alive its j k e)) e (slot-at j (cap-two _ k e));
+}
   where
     back-H : (b n : ℕ) → b < 64 → n < 64 → s′ (8192 + (64 * b + n)) ≡ true → s (8192 + (64 * b + n)) ≡ true
     back-H b n lb ln h = sym (wide-H s b n lb ln) ∙ L .inside (wide s) (wide-keeps s) (wide-closed s 192 p) (8192 + (64 * b + n)) h
+
     slot-at : (j : ℕ) → 2 ≤ at its j .kind → slot (at its j) < 192
     slot-at j two = slot-small (at its j) (capable (at its j) (wf .shaped j) two) two
 

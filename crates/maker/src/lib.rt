@@ -1,6 +1,5 @@
 // Making the least table that holds.
 ghost use mathlib.Core.Path.{_≡_};
-ghost use mathlib.Core.Bool.{true};
 ghost use Prim.Native.Nat.{ℕ, _/_, _%_, _^_, _<_};
 ghost use lib.ListN.{length, getD};
 ghost use Rattle.closure.specs.Cells.{orAt};
@@ -8,7 +7,7 @@ ghost use Rattle.model.specs.Analysis.{free};
 ghost use Rattle.model.specs.Least.{leastTable};
 ghost use Rattle.model.specs.Records.{count, records};
 ghost use Rattle.model.specs.Refusals.{pass};
-ghost use Rattle.model.specs.Tables.{bits, isHigh, placeS, policyRight, total};
+ghost use Rattle.model.specs.Tables.{bits, isHigh, placeS, total};
 ghost use Rattle.model.specs.Validity.{validity};
 ghost use Rattle.maker.specs.Facts.{Based, Closes, Filled};
 ghost use Rattle.partners.specs.Facts.{bearing, nameCell, nestCell, standing};

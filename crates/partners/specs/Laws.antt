@@ -1,6 +1,6 @@
 -- The folded rules hold exactly where the rules of all capability records do.
-use Prim.Native.Nat.{_%_, _*_, _+_, _-_, _/_, _<_, _≤_, suc, zero, ℕ}
-use borrow.Author.Tests.{eqb-true, le-leb, leb-true, ne-eqb}
+use Prim.Native.Nat.{_%_, _*_, _+_, _/_, _<_, _≤_, suc, zero, ℕ}
+use borrow.Author.Tests.{le-leb, leb-true, ne-eqb}
 use lib.Bits.{bitOr}
 use lib.Dec.{leb}
 use lib.ListN.{getD, length}
@@ -8,9 +8,9 @@ use lib.Seq.{getD-set-other, getD-set-same}
 use mathlib.Core.Bool.{Bool, false, true, true≢false}
 use mathlib.Core.List.{List}
 use mathlib.Core.Logic.{_⊎_, inl, inr, ⊎-elim}
-use mathlib.Core.Option.{none, some}
+use mathlib.Core.Option.{some}
 use mathlib.Core.Path.{_∙_, _≡_, ap, refl, subst, sym}
-use native.Mathlib.Decide.{decLe, ℕ-discrete}
+use native.Mathlib.Decide.{ℕ-discrete}
 use native.Mathlib.Omega.{arith}
 use Rattle.closure.specs.Cells.{Bits, at-word, orAt}
 use Rattle.closure.specs.Rules.{Closed, Column, InRule, OpenRule, OutRule, Rules}
@@ -21,7 +21,7 @@ use Rattle.model.specs.Laws.Checks.{and-make, or-cases, or-right}
 use Rattle.model.specs.Laws.Holding.{Rule}
 use Rattle.model.specs.Laws.Updates.{at-root}
 use Rattle.model.specs.Laws.WellFormed.{WellFormed, and-left, and-right, shape, shape-label, shape-named}
-use Rattle.model.specs.Records.{Capability, at, cap-in, cap-open, cap-out, capability, count, decode, isAmbient, nested, records}
+use Rattle.model.specs.Records.{Capability, at, cap-in, cap-open, cap-out, capability, count, decode, isAmbient, nested}
 use Rattle.model.specs.Refusals.{pass}
 use Rattle.model.specs.Tables.{parts, placeH, placeI, placeS, testBit}
 use Rattle.model.specs.Validity.{kindRight, labelIn, nameBy, nameRight, validity}
@@ -86,14 +86,16 @@ module _ (w : List ℕ) where
 
       pub added-one : Added names r p (orAt p (slot r) m)
       added-one = record {
-          keeps = λ i b t. keep i b (ℕ-discrete i (slot r)) t;
-          has = λ i b a. same-bit i b (sym (a .here)) ∙ or-bit (getD p i 0) m b
-              ∙ or-right (testBit (getD p i 0) b) (testBit m b) (M .has b (a .below) (sym (names-word b) ∙ a .names));
-          only = λ i b t. only i b (ℕ-discrete i (slot r)) t }
+        keeps = λ i b t. keep i b (ℕ-discrete i (slot r)) t;
+        has = λ i b a. same-bit i b (sym (a .here)) ∙ or-bit (getD p i 0) m b
+            ∙ or-right (testBit (getD p i 0) b) (testBit m b) (M .has b (a .below) (sym (names-word b) ∙ a .names));
+        only = λ i b t. only i b (ℕ-discrete i (slot r)) t;
+      }
         where
           keep : (i b : ℕ) → Dec (i ≡ slot r) → testBit (getD p i 0) b ≡ true → testBit (getD (orAt p (slot r) m) i 0) b ≡ true
           keep i b (yes e) t = same-bit i b e ∙ or-bit (getD p i 0) m b ∙ or-left (testBit (getD p i 0) b) (testBit m b) t
           keep i b (no d) t = other-bit i b d ∙ t
+
           only : (i b : ℕ) → Dec (i ≡ slot r) → testBit (getD (orAt p (slot r) m) i 0) b ≡ true → (testBit (getD p i 0) b ≡ true) ⊎ Aims names r i b
           only i b (yes e) t = or-cases (testBit (getD p i 0) b) (testBit m b) (sym (or-bit (getD p i 0) m b) ∙ sym (same-bit i b e) ∙ t) (λ s. inl s)
               (λ s. let o = M .only b s in inr (record { capable = k; here = sym e; below = o .0; names = names-word b ∙ o .1 }))
@@ -104,13 +106,15 @@ module _ (w : List ℕ) where
 module _ (its : List Rec) (H : ℕ → ℕ → Bool) where
   pub folds-none : (p : List ℕ) → ((i : ℕ) → getD p i 0 ≡ 0) → Folds its H 0 p
   folds-none p z = record {
-      has = λ j i b l a. let k = a .capable in let e : at its j .kind ≡ 0 = ap (λ (r : Rec). r .kind) (ap (at its) (omega arith) ∙ at-root its) in absurd (omega arith);
-      only = λ i b t. absurd (true≢false (sym t ∙ ap (λ (x : ℕ). testBit x b) (z i) ∙ zero-bit b)) }
+    has = λ j i b l a. let k = a .capable in let e : at its j .kind ≡ 0 = ap (λ (r : Rec). r .kind) (ap (at its) (omega arith) ∙ at-root its) in absurd (omega arith);
+    only = λ i b t. absurd (true≢false (sym t ∙ ap (λ (x : ℕ). testBit x b) (z i) ∙ zero-bit b));
+  }
 
   pub folds-next : (n : ℕ) (p p′ : List ℕ) (r : Rec) → r ≡ at its (n + 1) → Folds its H n p → Added H r p p′ → Folds its H (n + 1) p′
   folds-next n p p′ r e f a = record {
-      has = λ j i b l m. has j i b l m (ℕ-discrete j (n + 1));
-      only = λ i b t. ⊎-elim (λ s. f .only i b s) (λ m. record { from = n + 1; aims = subst (λ (x : Rec). Aims H x i b) e m }) (a .only i b t) }
+    has = λ j i b l m. has j i b l m (ℕ-discrete j (n + 1));
+    only = λ i b t. ⊎-elim (λ s. f .only i b s) (λ m. record { from = n + 1; aims = subst (λ (x : Rec). Aims H x i b) e m }) (a .only i b t);
+  }
     where
       has : (j i b : ℕ) → j ≤ n + 1 → Aims H (at its j) i b → Dec (j ≡ n + 1) → testBit (getD p′ i 0) b ≡ true
       has j i b l m (yes q) = a .has i b (subst (λ (x : Rec). Aims H x i b) (ap (at its) q ∙ sym e) m)
@@ -173,13 +177,17 @@ module _ {its : List Rec} (wf : WellFormed its) (H : ℕ → ℕ → Bool) (n : 
     where
       two : 2 ≤ at its j .kind
       two = cap-two _ k e
+
       able : Capable (at its j)
       able = capable (at its j) (wf .shaped j) two
+
       bears : (b : ℕ) → b < 64 → parts u .H b (at its j .name) ≡ true → testBit (getD p (slot (at its j)) 0) b ≡ true
       bears b lb h = F .has j (slot (at its j)) b l (record { capable = two; here = refl; below = lb; names = sub b (at its j .name) lb (able .name) h })
+
       rules : Rules (at its j .kind) (at its j .label) (getD p (slot (at its j)) 0) u
       rules = subst (λ (t : ℕ). Rules (at its j .kind) t (getD p (slot (at its j)) 0) u) (slot-label (at its j) able two (slot (at its j)) refl)
           (subst (λ (x : ℕ). Rules x (64 + slot (at its j) % 64) (getD p (slot (at its j)) 0) u) (slot-kind (at its j) able two (slot (at its j)) refl) (C (slot (at its j)) s))
+
       go : (k : Capability) → capability (at its j .kind) ≡ some k → RuleOf its u k j
       go cap-in q = λ a b x la lb lx may ia ixa ixb hb. rules x lx .ins (cap-kind _ cap-in q) a b la lb ia ixa ixb (bears b lb hb)
       go cap-out q = λ a b x la lb lx may ia iba ixb hb. rules b lb .outs (cap-kind _ cap-out q) a x la lx ia iba ixb (bears b lb hb)
@@ -190,21 +198,25 @@ module _ {its : List Rec} (wf : WellFormed its) (H : ℕ → ℕ → Bool) (n : 
       ((j : ℕ) (k : Capability) → capability (at its j .kind) ≡ some k → slot (at its j) < m → RuleOf its u k j) → Closed m p u
   unfolding Closed Rules InRule OutRule OpenRule kindOf placeI placeS
   rules-closed sub m f i l x lx = record {
-      ins = λ e a b la lb ia ixa ixb bn.
-          let s = F .only i b bn in
-          rule s cap-in e a b x la lb lx refl (ap (λ (t : ℕ). u (128 * a + t)) (sym (label s)) ∙ ia) ixa ixb (bears s);
-      outs = λ e a q la lq ia iba ixb bn.
-          let s = F .only i x bn in
-          rule s cap-out e a x q la lx lq refl (ap (λ (t : ℕ). u (128 * a + t)) (sym (label s)) ∙ ia) iba ixb (bears s);
-      opens = λ e b lb ix ixb bn.
-          let s = F .only i b bn in
-          rule s cap-open e b x lb lx refl (ap (λ (t : ℕ). u (128 * x + t)) (sym (label s)) ∙ ix) ixb (bears s) }
+    ins = λ e a b la lb ia ixa ixb bn.
+        let s = F .only i b bn in
+        rule s cap-in e a b x la lb lx refl (ap (λ (t : ℕ). u (128 * a + t)) (sym (label s)) ∙ ia) ixa ixb (bears s);
+    outs = λ e a q la lq ia iba ixb bn.
+        let s = F .only i x bn in
+        rule s cap-out e a x q la lx lq refl (ap (λ (t : ℕ). u (128 * a + t)) (sym (label s)) ∙ ia) iba ixb (bears s);
+    opens = λ e b lb ix ixb bn.
+        let s = F .only i b bn in
+        rule s cap-open e b x lb lx refl (ap (λ (t : ℕ). u (128 * x + t)) (sym (label s)) ∙ ix) ixb (bears s);
+  }
     where
       able : {b : ℕ} (s : Source its H i b) → Capable (at its (s .from))
       able s = capable (at its (s .from)) (wf .shaped (s .from)) (s .aims .capable)
+
       label : {b : ℕ} (s : Source its H i b) → 64 + i % 64 ≡ at its (s .from) .label
       label s = slot-label (at its (s .from)) (able s) (s .aims .capable) i (s .aims .here)
+
       bears : {b : ℕ} (s : Source its H i b) → parts u .H b (at its (s .from) .name) ≡ true
       bears {b} s = sub b (at its (s .from) .name) (s .aims .below) (able s .name) (s .aims .names)
+
       rule : {b : ℕ} (s : Source its H i b) (k : Capability) → 2 + i / 64 ≡ kindOf k → RuleOf its u k (s .from)
       rule s k e = f (s .from) k (kind-cap _ k (sym (slot-kind (at its (s .from)) (able s) (s .aims .capable) i (s .aims .here)) ∙ e)) (subst (λ (y : ℕ). y < m) (sym (s .aims .here)) l)

@@ -3,7 +3,7 @@ use Prim.Native.Nat.{_*_, _+_, _-_, _<_, _≤_, ℕ}
 use borrow.Author.Tests.{eq-eqb, le-leb, lt-leb, ne-eqb}
 use lib.Dec.{eqb}
 use lib.ListN.{length}
-use mathlib.Core.Bool.{Bool, false, true}
+use mathlib.Core.Bool.{false, true}
 use mathlib.Core.List.{List}
 use mathlib.Core.Path.{_∙_, _≡_, ap, ap₂, subst, sym}
 use native.Mathlib.Omega.{arith}
@@ -12,7 +12,7 @@ use Rattle.model.specs.Climbing.{container}
 use Rattle.model.specs.Laws.Bytes.{at-decode, shape-kind, valid-wf}
 use Rattle.model.specs.Laws.Checks.{and-make}
 use Rattle.model.specs.Laws.Containers.{container-small}
-use Rattle.model.specs.Laws.Holding.{Fits, Holds}
+use Rattle.model.specs.Laws.Holding.{Holds}
 use Rattle.model.specs.Laws.WellFormed.{WellFormed, alive-in, alive-pos, amb-nested, labels, named, nested-alive, small}
 use Rattle.model.specs.Records.{at, count, decode, isAmbient, nested, records}
 use Rattle.model.specs.Refusals.{pass}
@@ -42,13 +42,15 @@ module _ (policy : List ℕ) (its : List Rec) (u : Set) where
   pub facts-holds : Facts its policy u → AllRules its u → Holds free policy its (parts u)
   unfolding Wanted standing nestCell bearing nameCell placeH
   facts-holds f r = record {
-      fits = λ i. record {
-        nest = λ n. let w = numbered i n in
-            subst (λ (y : ℕ). u (placeI (container its y) (at its y .label)) ≡ true) (sym (w .0)) (f .nests (i - 1) (w .1) (ap (λ (y : ℕ). nested (at its y)) (sym (w .0)) ∙ n));
-        names = λ a. let w = numbered i (amb-nested (at its i) a) in
-            subst (λ (y : ℕ). u (8192 + (64 * at its y .label + at its y .name)) ≡ true) (sym (w .0)) (f .names (i - 1) (w .1) (ap (λ (y : ℕ). isAmbient (at its y)) (sym (w .0)) ∙ a));
-        rules = λ k e. r i k e };
-      high = f .highs }
+    fits = λ i. record {
+      nest = λ n. let w = numbered i n in
+          subst (λ (y : ℕ). u (placeI (container its y) (at its y .label)) ≡ true) (sym (w .0)) (f .nests (i - 1) (w .1) (ap (λ (y : ℕ). nested (at its y)) (sym (w .0)) ∙ n));
+      names = λ a. let w = numbered i (amb-nested (at its i) a) in
+          subst (λ (y : ℕ). u (8192 + (64 * at its y .label + at its y .name)) ≡ true) (sym (w .0)) (f .names (i - 1) (w .1) (ap (λ (y : ℕ). isAmbient (at its y)) (sym (w .0)) ∙ a));
+      rules = λ k e. r i k e;
+    };
+    high = f .highs;
+  }
 
 -- ---- a record as the loops read it
 
@@ -73,7 +75,8 @@ module _ (s : List ℕ) (v : validity s ≡ pass) (i : ℕ) (l : i + 1 ≤ count
         label = rw read-at (small wf (i + 1) a);
         name = rw read-at (named wf (i + 1));
         test = a;
-        cell = ap (λ (x : Rec). 64 * x .label + x .name) read-at }
+        cell = ap (λ (x : Rec). 64 * x .label + x .name) read-at;
+      }
 
   pub bears-not : (r .kind ≡ 1 → ⊥) → bearing (records s) i ≡ false
   unfolding bearing isAmbient
@@ -89,10 +92,11 @@ module _ (s : List ℕ) (v : validity s ≡ pass) (i : ℕ) (l : i + 1 ≤ count
   pub stands : (c : ℕ) → c ≡ container (records s) (i + 1) → 1 ≤ r .kind → Stands c
   unfolding standing nestCell nested placeI kindRight
   stands c p k = record {
-      label = rw read-at (labels wf (i + 1));
-      above = rw p (container-small wf (i + 1));
-      test = ap nested (sym read-at) ∙ and-make (le-leb 1 (r .kind) k) (rw read-at (shape-kind _ (wf .shaped (i + 1))));
-      cell = ap₂ (λ (x : ℕ) (y : Rec). 128 * x + y .label) p read-at }
+    label = rw read-at (labels wf (i + 1));
+    above = rw p (container-small wf (i + 1));
+    test = ap nested (sym read-at) ∙ and-make (le-leb 1 (r .kind) k) (rw read-at (shape-kind _ (wf .shaped (i + 1))));
+    cell = ap₂ (λ (x : ℕ) (y : Rec). 128 * x + y .label) p read-at;
+  }
 
   pub stands-not : r .kind < 1 → standing (records s) i ≡ false
   unfolding standing nested

@@ -2,6 +2,7 @@
 use model::Rec;
 ghost use mathlib.Core.Path.{_≡_};
 ghost use Prim.Native.Nat.{ℕ};
+ghost use lib.Dec.{leb};
 ghost use lib.ListN.{length, getD};
 ghost use mathlib.Core.Bool.{true};
 ghost use Rattle.model.specs.Laws.WellFormed.{shape};
@@ -11,6 +12,13 @@ ghost use Rattle.model.specs.Validity.{validity};
 ghost use Rattle.partners.specs.Fold.{Added, Folds};
 ghost use Rattle.partners.specs.Laws.{names};
 
+// Whether a record, of kind 4 at most, is a capability: wherever it stands, active or not.
+fn is_capability(r: Rec) -> bool
+    ensures { λ b. ⌜ b ≡ leb 2 (r .kind) ⌝ }
+{
+    2 <= r.kind
+}
+
 // Adds the labels that bear the name which a capability targets to the word of its kind and label. (inner)
 fn aim(partners: &mut [u64], w: &[u64], r: Rec)
     requires { ⌜ length (now partners) ≡ 192 ⌝ }
@@ -18,7 +26,7 @@ fn aim(partners: &mut [u64], w: &[u64], r: Rec)
     requires { ⌜ shape r ≡ true ⌝ }
     ensures { λ _. ⌜ Added (names (now (w .entry))) r (now (partners .entry)) (now (partners .exit)) ⌝ }
 {
-    if r.kind < 2 {
+    if !is_capability(r) {
         return;
     }
     let bearers = closure::column(w, 128, 1, r.name as usize);

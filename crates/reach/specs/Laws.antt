@@ -1,15 +1,14 @@
 -- Sets as lists of truth values, and the steps to R.
 use Prim.Native.Nat.{_*_, _+_, _<_, _≤_, suc, suc-le-suc, zero, zero-le, ℕ}
-use borrow.Author.Tests.{eq-eqb, eqb-false, not-true, ne-eqb}
-use lib.Dec.{eqb}
-use lib.ListN.{List·getD-eq-default, drop, getD, length, replicate, set}
+use borrow.Author.Tests.{eqb-false, ne-eqb, not-true}
+use lib.ListN.{drop, getD, length, replicate, set}
 use lib.Seq.{drop-cons, drop-length, getD-set-other, getD-set-same}
 use mathlib.Core.Bool.{Bool, _&&_, false, not, true, true≢false}
 use mathlib.Core.List.{List, [], _∷_}
-use mathlib.Core.Option.{Option, none, some}
-use mathlib.Core.Path.{_∙_, _≡_, ap, ap₂, refl, subst, sym}
-use native.Mathlib.Decide.{decLt, ℕ-discrete}
-use native.Mathlib.Nat.{le-of-suc-le-suc, le-refl, le-step, le-trans, not-suc-le-self, suc-inj, suc-ne-zero, zero-add}
+use mathlib.Core.Option.{Option}
+use mathlib.Core.Path.{_∙_, _≡_, ap, ap₂, refl, sym}
+use native.Mathlib.Decide.{ℕ-discrete}
+use native.Mathlib.Nat.{le-of-suc-le-suc, le-refl, le-step, le-trans, not-suc-le-self, suc-inj, suc-ne-zero}
 use native.Mathlib.Numerals.{add-one}
 use native.Mathlib.Omega.{arith}
 use Rattle.model.specs.Finite.{lowest}
@@ -19,7 +18,6 @@ use Rattle.model.specs.Laws.Reach.{reached-below, reached-inside, reached-next,
 use Rattle.model.specs.Laws.WellFormed.{and-left, and-right}
 use Rattle.model.specs.Tables.{isBoundary, isHigh, parts, placeI}
 use Rattle.model.specs.Verdicts.{inR, marked, opening, reached, verdictBy, verdictOf}
-use Rattle.model.specs.declared.Verdict.{Verdict}
 use Rattle.model.specs.declared.Verdict.the-variants.{Exposed, Hinted, Sealed}
 use Rattle.reach.specs.Reach.{Origin, Row, Sweep, foundAs, trues}
 use Rattle.reach.specs.declared.Found.{Found}
@@ -31,13 +29,15 @@ use Rattle.tables.specs.Grow.{Below, Grown, Inside, Set, Smallest, loop-end, lo
 pub set-true : (q : List Bool) (k : ℕ) → k < length q → Grown (λ u. u k ≡ true) (λ u. u k ≡ true) (marked q) (marked (set q k true))
 unfolding marked
 set-true q k h = record {
-    keeps = λ j t. keep j (ℕ-discrete j k) t;
-    inside = λ u s c j t. ins u s c j (ℕ-discrete j k) t;
-    done = λ b. b k (getD-set-same q k true false h) }
+  keeps = λ j t. keep j (ℕ-discrete j k) t;
+  inside = λ u s c j t. ins u s c j (ℕ-discrete j k) t;
+  done = λ b. b k (getD-set-same q k true false h);
+}
   where
     keep : (j : ℕ) → Dec (j ≡ k) → marked q j ≡ true → marked (set q k true) j ≡ true
     keep j (yes e) t = ap (λ (x : ℕ). getD (set q k true) x false) e ∙ getD-set-same q k true false h
     keep j (no d) t = getD-set-other q k j true false d ∙ t
+
     ins : (u : Set) → Inside (marked q) u → u k ≡ true → (j : ℕ) → Dec (j ≡ k) → marked (set q k true) j ≡ true → u j ≡ true
     ins u s c j (yes e) t = ap u e ∙ c
     ins u s c j (no d) t = s j (sym (getD-set-other q k j true false d) ∙ t)
@@ -143,9 +143,9 @@ module _ (u : Set) (policy : List ℕ) where
   reach-is s r e o L =
       same
       (L .inside (marked (reached 64 edge)) (λ j m. ap (marked (reached 64 edge)) (o .only j m) ∙ reached-start 64 edge (omega arith))
-        (λ x lx m d k lk t. reached-next 64 edge x k lx lk m (edge-make x k t d)))
+      (λ x lx m d k lk t. reached-next 64 edge x k lx lk m (edge-make x k t d)))
       (λ j m. reached-inside 64 edge (marked r) (L .keeps 0 (o .has))
-        (λ x k lx lk h q. let w = edge-use x k q in L .closed x lx h (w .1) k lk (w .0)) j (reached-below 64 edge j m) m)
+      (λ x k lx lk h q. let w = edge-use x k q in L .closed x lx h (w .1) k lk (w .0)) j (reached-below 64 edge j m) m)
 
 all-false : (n j : ℕ) → getD (replicate n false) j false ≡ false
 all-false zero j = refl

@@ -5,9 +5,9 @@ use mathlib.Core.Bool.{Bool, false, true}
 use mathlib.Core.List.{List, [], _∷_}
 use mathlib.Core.Option.{Option, none, some}
 use mathlib.Core.Path.{_≡_}
-use Rattle.tables.specs.Grow.{Set}
 use Rattle.reach.specs.declared.Found.{Found}
 use Rattle.reach.specs.declared.Found.the-variants.{At, Nothing}
+use Rattle.tables.specs.Grow.{Set}
 
 -- the labels that may stand directly in x, by the table t, are in u
 unfoldable pub Row : Set → ℕ → Set → Type 0

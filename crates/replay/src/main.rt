@@ -181,9 +181,18 @@ fn as_shadowed(
     sheet2: &[u8],
 ) -> bool {
     let a = replaying::same(replaying::part(it, s.it), replaying::part(it2, s.it));
-    let b = replaying::same(replaying::part(table, s.table), replaying::part(table2, s.table));
-    let c = replaying::same(replaying::part(answers, s.answers), replaying::part(answers2, s.answers));
-    let d = replaying::same(replaying::part(sheet, s.sheet), replaying::part(sheet2, s.sheet));
+    let b = replaying::same(
+        replaying::part(table, s.table),
+        replaying::part(table2, s.table),
+    );
+    let c = replaying::same(
+        replaying::part(answers, s.answers),
+        replaying::part(answers2, s.answers),
+    );
+    let d = replaying::same(
+        replaying::part(sheet, s.sheet),
+        replaying::part(sheet2, s.sheet),
+    );
     a & b & c & d
 }
 
@@ -209,16 +218,30 @@ fn call(
     let answers = replaying::part_mut(answers, s.answers);
     let sheet = replaying::part_mut(sheet, s.sheet);
     if op == 25 {
-        return replaying::agree(of_screened(screen::screen(it, policy, script, answers)), want);
+        return replaying::agree(
+            of_screened(screen::screen(it, policy, script, answers)),
+            want,
+        );
     }
     if 21 <= op {
         return replaying::agree(table_call(op, x, want, it, policy, table), want);
     }
-    replaying::agree(itinerary_call(op, x, y, it, table, script, answers, sheet), want)
+    replaying::agree(
+        itinerary_call(op, x, y, it, table, script, answers, sheet),
+        want,
+    )
 }
 
 // The commands that set a shadow.
-fn shadow_command(fd: i32, op: u8, s: State, it2: &mut [u8], table2: &mut [u8], answers2: &mut [u8], sheet2: &mut [u8]) {
+fn shadow_command(
+    fd: i32,
+    op: u8,
+    s: State,
+    it2: &mut [u8],
+    table2: &mut [u8],
+    answers2: &mut [u8],
+    sheet2: &mut [u8],
+) {
     if op == 11 {
         replaying::raise_bits(fd, table2);
         return;
@@ -297,7 +320,11 @@ fn table_command(fd: i32, op: u8, s: State, table: &mut [u8], table2: &mut [u8])
         replaying::clear(table2);
         return next;
     }
-    replaying::turn_bits(fd, replaying::part_mut(table, s.table), replaying::part_mut(table2, s.table));
+    replaying::turn_bits(
+        fd,
+        replaying::part_mut(table, s.table),
+        replaying::part_mut(table2, s.table),
+    );
     next
 }
 
@@ -332,7 +359,19 @@ fn command(
     if (op == 3) | (op == 7) | (op == 8) {
         return table_command(fd, op, s, table, table2);
     }
-    set_command(fd, op, s, it, it2, policy, script, answers, answers2, sheet, sheet2)
+    set_command(
+        fd,
+        op,
+        s,
+        it,
+        it2,
+        policy,
+        script,
+        answers,
+        answers2,
+        sheet,
+        sheet2,
+    )
 }
 
 // No buffer has bytes, and no call was made.
@@ -374,7 +413,19 @@ fn commands(
             return s.tally;
         }
         s = command(
-            fd, op, s, it, it2, policy, table, table2, script, answers, answers2, sheet, sheet2,
+            fd,
+            op,
+            s,
+            it,
+            it2,
+            policy,
+            table,
+            table2,
+            script,
+            answers,
+            answers2,
+            sheet,
+            sheet2,
         );
     }
     s.tally

@@ -216,14 +216,22 @@ pub struct Tally {
 
 // One call more.
 pub fn counted(t: Tally, right: bool) -> Tally {
-    let calls = if t.calls < 1000000 { t.calls + 1 } else { t.calls };
+    let calls = if t.calls < 1000000 {
+        t.calls + 1
+    } else {
+        t.calls
+    };
     if right {
         return Tally {
             calls,
             differ: t.differ,
         };
     }
-    let differ = if t.differ < 1000000 { t.differ + 1 } else { t.differ };
+    let differ = if t.differ < 1000000 {
+        t.differ + 1
+    } else {
+        t.differ
+    };
     Tally { calls, differ }
 }
 

@@ -1,7 +1,7 @@
 -- Bytes as one number, the first lowest: its bits are theirs.
 use Prim.Native.Nat.{_%_, _*_, _+_, _-_, _/_, _<_, _^_, _≤_, suc, zero, ℕ}
 use lib.Arith.{digits-lt}
-use lib.Bits.{bitOr, or-shifted}
+use lib.Bits.{or-shifted}
 use lib.Dec.{eqb}
 use lib.ListN.{List·getD-eq-default, drop, getD, length, length-take, set, take}
 use lib.Pow.{high, pow-add, pow-mono, pow-pos}
@@ -9,7 +9,7 @@ use lib.Seq.{drop-cons, getD-drop, getD-set-other, getD-set-same, getD-take}
 use mathlib.Core.Bool.{Bool, _||_, false}
 use mathlib.Core.List.{List, [], _∷_}
 use mathlib.Core.Logic.{⊎-elim}
-use mathlib.Core.Path.{_∙_, _≡_, ap, ap₂, fun-ext, refl, subst, sym}
+use mathlib.Core.Path.{_∙_, _≡_, ap, ap₂, fun-ext, subst, sym}
 use native.Mathlib.Decide.{decLt}
 use native.Mathlib.Nat.{div-add-mod', eq-or-lt-of-le, le-of-eq, le-of-suc-le-suc, le-refl, le-trans, lt-irrefl, min-le-left, mod-lt, mul-assoc, mul-div-cancel, mul-le-mul-right, mul-mod-left, not-suc-le-zero, pow-suc, suc-mul, zero-lt-suc}
 use native.Mathlib.Numerals.{add-one}

@@ -1,9 +1,10 @@
+-- `analysis::check` meets its contract.
+use borrow.Author.Needs.{needs}
 use borrow.Author.Tests.{not-false, not-true}
 use mathlib.Core.Path.{_∙_, sym}
 use Rattle.analysis.specs.Laws.{check-done, check-form, check-holding, check-invalid, check-passes, check-policy, check-refused, policy-length, table-length}
 use Rattle.itinerary.specs.Laws.{validate-pass, validate-refuse}
 use Rattle.model.specs.Numbers.{performedAs}
-use borrow.Author.Needs.{needs}
 use Rattle.analysis.proofs.check.Statement.{statement}
 use Rattle.analysis.proofs.check.Tie as tie
 

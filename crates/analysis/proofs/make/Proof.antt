@@ -1,9 +1,10 @@
+-- `analysis::make` meets its contract.
+use borrow.Author.Needs.{needs}
 use borrow.Author.Tests.{not-false, not-true}
 use mathlib.Core.Path.{_∙_, sym}
 use Rattle.analysis.specs.Laws.{make-done, make-invalid, make-passes, make-policy, make-refused, make-size, policy-length}
 use Rattle.itinerary.specs.Laws.{validate-pass, validate-refuse}
 use Rattle.model.specs.Numbers.{madeAs}
-use borrow.Author.Needs.{needs}
 use Rattle.analysis.proofs.make.Statement.{statement}
 use Rattle.analysis.proofs.make.Tie as tie
 

@@ -1,6 +1,7 @@
+-- `analysis::verdict` meets its contract.
+use borrow.Author.Needs.{needs}
 use Rattle.analysis.specs.Laws.{accepted-policy, accepted-table, checked-pass, checked-refuse, verdict-done, verdict-refused}
 use Rattle.model.specs.Numbers.{judgedAs}
-use borrow.Author.Needs.{needs}
 use Rattle.analysis.proofs.verdict.Statement.{statement}
 use Rattle.analysis.proofs.verdict.Tie as tie
 

@@ -1,6 +1,7 @@
+-- `closure::admit` meets its contract.
+use borrow.Author.Needs.{needs}
 use mathlib.Core.Path.{_∙_, sym}
 use Rattle.closure.specs.Laws.{admit-no, admit-yes}
-use borrow.Author.Needs.{needs}
 use Rattle.closure.proofs.admit.Statement.{statement}
 use Rattle.closure.proofs.admit.Tie as tie
 

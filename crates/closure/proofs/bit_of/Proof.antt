@@ -1,5 +1,6 @@
-use Rattle.model.specs.Tables.{testBit}
+-- `closure::bit_of` meets its contract.
 use borrow.Author.Needs.{needs}
+use Rattle.model.specs.Tables.{testBit}
 use Rattle.closure.proofs.bit_of.Statement.{statement}
 use Rattle.closure.proofs.bit_of.Tie as tie
 

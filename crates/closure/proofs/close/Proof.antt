@@ -1,14 +1,15 @@
+-- `closure::close` meets its contract.
 use Prim.Native.Nat.{_*_, _-_, ℕ}
 use lib.ListN.{length}
 use mathlib.Core.List.{List}
 use mathlib.Core.Path.{_∙_, _≡_, ap, refl, subst, sym}
 use native.Mathlib.Omega.{arith}
 use Rattle.closure.specs.Cells.{Bits}
-use Rattle.tables.specs.Grow.{Grown, Inside, any, finish, on, start}
 use Rattle.closure.specs.Rules.{Closed}
 use Rattle.closure.specs.Total.{Less, less-bits, total-le}
 use Rattle.model.specs.Laws.Sets.{Narrow}
 use Rattle.model.specs.Tables.{total}
+use Rattle.tables.specs.Grow.{Grown, Inside, any, finish, on, start}
 use Rattle.closure.proofs.close.Statement.{statement}
 use Rattle.closure.proofs.close.Tie as tie
 

@@ -1,3 +1,4 @@
+-- `closure::column` meets its contract.
 use Prim.Native.Nat.{_*_, _+_, _-_, _≤_, ℕ}
 use mathlib.Core.Logic.{⊎-elim}
 use mathlib.Core.Path.{_∙_, _≡_, subst, sym}

@@ -1,3 +1,4 @@
+-- `closure::count` meets its contract.
 use Prim.Native.Nat.{_*_, _+_, _-_, _≤_, ℕ}
 use lib.Count.{ones}
 use lib.ListN.{drop, getD, length}

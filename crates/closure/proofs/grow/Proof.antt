@@ -1,11 +1,12 @@
+-- `closure::grow` meets its contract.
 use Prim.Native.Nat.{_-_, _≤_}
 use lib.ListN.{length}
 use mathlib.Core.Path.{_∙_, _≡_, refl}
 use native.Mathlib.Omega.{arith}
 use Rattle.closure.specs.Cells.{Bits}
-use Rattle.tables.specs.Grow.{Below, Grown, loop-none}
 use Rattle.closure.specs.Laws.{rules-empty, turn-end, turn-more}
 use Rattle.closure.specs.Rules.{Rule, Rules}
+use Rattle.tables.specs.Grow.{Below, Grown, loop-none}
 use Rattle.closure.proofs.grow.Statement.{statement}
 use Rattle.closure.proofs.grow.Tie as tie
 

@@ -1,6 +1,7 @@
-use Rattle.closure.specs.Laws.{joined}
-use mathlib.Core.Path.{refl}
+-- `closure::join` meets its contract.
 use borrow.Author.Needs.{needs}
+use mathlib.Core.Path.{refl}
+use Rattle.closure.specs.Laws.{joined}
 use Rattle.closure.proofs.join.Statement.{statement}
 use Rattle.closure.proofs.join.Tie as tie
 

@@ -1,3 +1,4 @@
+-- `closure::leave` meets its contract.
 use Prim.Native.Nat.{_+_, _-_, _≤_, ℕ}
 use lib.ListN.{length}
 use mathlib.Core.List.{List}
@@ -5,9 +6,9 @@ use mathlib.Core.Logic.{⊎-elim}
 use mathlib.Core.Path.{_∙_, _≡_, ap, refl, subst, sym}
 use native.Mathlib.Omega.{arith}
 use Rattle.closure.specs.Cells.{Bits}
-use Rattle.tables.specs.Grow.{Below, Grown, loop-none}
 use Rattle.closure.specs.Laws.{LeavesAt, leave-empty, leave-end, leave-no, leave-yes}
 use Rattle.closure.specs.Rules.{Leaves}
+use Rattle.tables.specs.Grow.{Below, Grown, loop-none}
 use Rattle.closure.proofs.leave.Statement.{statement}
 use Rattle.closure.proofs.leave.Tie as tie
 

@@ -1,6 +1,7 @@
+-- `closure::merge` meets its contract.
+use borrow.Author.Needs.{needs}
 use mathlib.Core.Path.{_∙_, sym}
 use Rattle.closure.specs.Laws.{merge-no, merge-yes}
-use borrow.Author.Needs.{needs}
 use Rattle.closure.proofs.merge.Statement.{statement}
 use Rattle.closure.proofs.merge.Tie as tie
 

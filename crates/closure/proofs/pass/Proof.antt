@@ -1,11 +1,12 @@
+-- `closure::pass` meets its contract.
 use Prim.Native.Nat.{_-_, _≤_}
 use lib.ListN.{length}
 use mathlib.Core.Path.{_∙_, _≡_, refl}
 use native.Mathlib.Omega.{arith}
 use Rattle.closure.specs.Cells.{Bits}
-use Rattle.tables.specs.Grow.{Below, Grown, loop-none}
 use Rattle.closure.specs.Laws.{pass-end, pass-next}
 use Rattle.closure.specs.Rules.{Closed, RulesAt}
+use Rattle.tables.specs.Grow.{Below, Grown, loop-none}
 use Rattle.closure.proofs.pass.Statement.{statement}
 use Rattle.closure.proofs.pass.Tie as tie
 

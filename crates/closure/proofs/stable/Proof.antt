@@ -1,8 +1,9 @@
-use Rattle.model.specs.Laws.Sets.{Narrow}
+-- `closure::stable` meets its contract.
+use borrow.Author.Needs.{needs}
 use borrow.Author.Tests.{eq-eqb, eqb-true}
 use mathlib.Core.Path.{_∙_, sym}
 use Rattle.closure.specs.Total.{unchanged-make, unchanged-use}
-use borrow.Author.Needs.{needs}
+use Rattle.model.specs.Laws.Sets.{Narrow}
 use Rattle.closure.proofs.stable.Statement.{statement}
 use Rattle.closure.proofs.stable.Tie as tie
 

@@ -1,9 +1,10 @@
+-- `closure::turn` meets its contract.
 use Prim.Native.Nat.{_*_}
+use borrow.Author.Needs.{needs}
 use lib.ListN.{getD}
 use mathlib.Core.Path.{_∙_, sym}
 use native.Mathlib.Omega.{arith}
 use Rattle.closure.specs.Laws.{turn-in, turn-none, turn-open, turn-out}
-use borrow.Author.Needs.{needs}
 use Rattle.closure.proofs.turn.Statement.{statement}
 use Rattle.closure.proofs.turn.Tie as tie
 

@@ -1,3 +1,4 @@
+-- `holding::highs_hold` meets its contract.
 use Prim.Native.Nat.{_-_, _<_, _≤_, ℕ}
 use borrow.Author.Count.{below-more}
 use borrow.Author.Tests.{eq-eqb, ne-eqb, not-false, not-true}

@@ -1,9 +1,10 @@
+-- `holding::holds` meets its contract.
+use borrow.Author.Needs.{needs}
 use borrow.Author.Tests.{not-false, not-true}
 use mathlib.Core.Path.{_∙_, sym}
 use Rattle.holding.specs.Laws.{holds-by-rules, holds-not-high, holds-not-nested}
 use Rattle.model.specs.Records.{records}
 use Rattle.model.specs.Tables.{bits}
-use borrow.Author.Needs.{needs}
 use Rattle.holding.proofs.holds.Statement.{statement}
 use Rattle.holding.proofs.holds.Tie as tie
 

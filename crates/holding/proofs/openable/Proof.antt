@@ -1,5 +1,5 @@
+-- `holding::openable` meets its contract.
 use Prim.Native.Nat.{_-_, _≤_, ℕ}
-use borrow.Author.Needs.{needs}
 use mathlib.Core.Logic.{⊎-elim}
 use mathlib.Core.Path.{_∙_, _≡_, ap, sym}
 use native.Mathlib.Omega.{arith}

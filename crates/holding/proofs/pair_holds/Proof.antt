@@ -1,8 +1,9 @@
+-- `holding::pair_holds` meets its contract.
+use borrow.Author.Needs.{needs}
 use borrow.Author.Tests.{not-false, not-true}
 use mathlib.Core.Path.{_∙_, sym}
 use Rattle.holding.specs.Laws.{pair-not, pair-other, pair-suspect, rows-inside}
 use Rattle.model.specs.Tables.{placeS}
-use borrow.Author.Needs.{needs}
 use Rattle.holding.proofs.pair_holds.Statement.{statement}
 use Rattle.holding.proofs.pair_holds.Tie as tie
 

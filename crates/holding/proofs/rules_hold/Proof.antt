@@ -1,8 +1,9 @@
+-- `holding::rules_hold` meets its contract.
+use borrow.Author.Needs.{needs}
 use borrow.Author.Tests.{not-false, not-true}
 use mathlib.Core.Path.{_∙_, refl, sym}
 use Rattle.holding.specs.Laws.{rules-by, rules-no}
 use Rattle.itinerary.specs.Laws.{getD-zero}
-use borrow.Author.Needs.{needs}
 use Rattle.holding.proofs.rules_hold.Statement.{statement}
 use Rattle.holding.proofs.rules_hold.Tie as tie
 

@@ -1,9 +1,10 @@
+-- `holding::stands` meets its contract.
+use borrow.Author.Needs.{needs}
 use borrow.Author.Tests.{not-false, not-true}
 use mathlib.Core.Path.{_∙_, sym}
 use native.Mathlib.Omega.{arith}
 use Rattle.holding.specs.Laws.{ambient-form, stood-ambient, stood-not, stood-other}
 use Rattle.model.specs.Tables.{placeH, placeI}
-use borrow.Author.Needs.{needs}
 use Rattle.holding.proofs.stands.Statement.{statement}
 use Rattle.holding.proofs.stands.Tie as tie
 

@@ -1,7 +1,8 @@
+-- `maker::base` meets its contract.
+use borrow.Author.Needs.{needs}
 use lib.ListN.{length}
 use mathlib.Core.Path.{_∙_, _≡_}
 use Rattle.maker.specs.Laws.{based, part-long}
-use borrow.Author.Needs.{needs}
 use Rattle.maker.proofs.base.Statement.{statement}
 use Rattle.maker.proofs.base.Tie as tie
 

@@ -1,6 +1,7 @@
+-- `maker::clear` meets its contract.
 use Prim.Native.Nat.{_-_, _<_, _≤_, ℕ}
 use lib.ListN.{getD, length, length-set}
-use mathlib.Core.Path.{_∙_, _≡_, refl}
+use mathlib.Core.Path.{_≡_, refl}
 use native.Mathlib.Omega.{arith}
 use Rattle.maker.specs.Laws.{zeros}
 use Rattle.words.specs.Words.{fill-next}

@@ -1,7 +1,8 @@
-use mathlib.Core.Path.{refl}
-use Rattle.maker.specs.Laws.{close-made}
-use Rattle.itinerary.specs.Laws.{getD-zero}
+-- `maker::close` meets its contract.
 use borrow.Author.Needs.{needs}
+use mathlib.Core.Path.{refl}
+use Rattle.itinerary.specs.Laws.{getD-zero}
+use Rattle.maker.specs.Laws.{close-made}
 use Rattle.maker.proofs.close.Statement.{statement}
 use Rattle.maker.proofs.close.Tie as tie
 

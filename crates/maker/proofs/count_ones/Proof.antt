@@ -1,3 +1,4 @@
+-- `maker::count_ones` meets its contract.
 use Prim.Native.Nat.{_*_, _+_, _-_, _≤_, ℕ}
 use lib.Count.{ones, ones-le}
 use lib.ListN.{drop, getD, length}

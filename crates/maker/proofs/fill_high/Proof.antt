@@ -1,3 +1,4 @@
+-- `maker::fill_high` meets its contract.
 use Prim.Native.Nat.{_+_, _-_, _≤_, ℕ}
 use borrow.Author.Tests.{eq-eqb, ne-eqb}
 use lib.ListN.{length}
@@ -43,10 +44,16 @@ loop-again c =
     let p = c .before .before .before .loop in
     let l : length (p .table) ≡ 1544 = p .inv .0 ∙ s .pre .0 in
     ⊎-elim
-    (λ v. (ap length (v .5) ∙ v .2 .kept .0 ∙ p .inv .0, omega arith,
-      filled-yes (isHigh (a .policy .now)) placeS (p .k) (p .table) _ (12288 + p .k) (eq-eqb _ _ (v .0 .taken)) refl (omega arith) (v .5 ∙ v .2 .ensures) (p .inv .2)))
-    (λ v. (ap length (v .1) ∙ p .inv .0, omega arith,
-      subst (λ (y : List ℕ). Filled (isHigh (a .policy .now)) placeS (p .k + 1) (bits (a .table .now)) (bits y)) (sym (v .1)) (filled-no (isHigh (a .policy .now)) placeS (p .k) (ne-eqb _ _ (v .0 .left)) (p .inv .2))))
+    (λ v. (
+      ap length (v .5) ∙ v .2 .kept .0 ∙ p .inv .0,
+      omega arith,
+      filled-yes (isHigh (a .policy .now)) placeS (p .k) (p .table) _ (12288 + p .k) (eq-eqb _ _ (v .0 .taken)) refl (omega arith) (v .5 ∙ v .2 .ensures) (p .inv .2),
+    ))
+    (λ v. (
+      ap length (v .1) ∙ p .inv .0,
+      omega arith,
+      subst (λ (y : List ℕ). Filled (isHigh (a .policy .now)) placeS (p .k + 1) (bits (a .table .now)) (bits y)) (sym (v .1)) (filled-no (isHigh (a .policy .now)) placeS (p .k) (ne-eqb _ _ (v .0 .left)) (p .inv .2)),
+    ))
     (c .if1 .came)
 
 same-length : tie.Need-same-length Inv-loop μ-loop

@@ -1,16 +1,17 @@
-use Rattle.itinerary.specs.Laws.{valid-few}
-use Prim.Native.Nat.{_*_, _+_, _-_, _/_, _≤_, ℕ}
+-- `maker::fill_names` meets its contract.
+use Prim.Native.Nat.{_*_, _+_, _-_, _/_, _<_, _≤_, ℕ}
 use lib.ListN.{length}
 use mathlib.Core.List.{List}
 use mathlib.Core.Logic.{⊎-elim}
 use mathlib.Core.Path.{_∙_, _≡_, ap, refl, subst, sym}
 use native.Mathlib.Omega.{arith}
+use Rattle.itinerary.specs.Laws.{valid-few}
 use Rattle.maker.specs.Facts.{Filled}
-use Rattle.partners.specs.Facts.{bearing, nameCell}
 use Rattle.maker.specs.Laws.{filled-no, filled-none, filled-yes}
-use Rattle.partners.specs.Standing.{bears, bears-not}
 use Rattle.model.specs.Records.{count, records}
 use Rattle.model.specs.Tables.{bits}
+use Rattle.partners.specs.Facts.{bearing, nameCell}
+use Rattle.partners.specs.Standing.{bears, bears-not}
 use Rattle.maker.proofs.fill_names.Statement.{statement}
 use Rattle.maker.proofs.fill_names.Tie as tie
 
@@ -32,55 +33,31 @@ add-record-at c = let s = c .before .before .before .before in let h = valid-few
 record-at-requires : tie.Need-record-at-requires Inv-loop μ-loop
 record-at-requires c κs = tt
 
-cast-set-bit : tie.Need-cast-set-bit Inv-loop μ-loop
+-- an ambient of a valid itinerary has its bit within the part
+known : (c : tie.Then1 Inv-loop μ-loop) →
+    (c .before .before .record-at .result .label < 64) × (c .before .before .record-at .result .name < 64) × (length (c .before .before .before .before .loop .names) ≡ 520)
 unfolding count
-cast-set-bit c =
-    let s = c .before .before .before .before .before .before .before .before .before in
-    let l = c .before .before .before .before .before .before .loop in
-    let r = c .before .before .before .before .record-at in
-    let h = valid-few (s .args .it .now) (s .pre .1) in
-    let e : l .i + 1 ≤ count (s .args .it .now) = omega arith in
-    let k = bears (s .args .it .now) (s .pre .1) (l .i) e (r .result) (r .ensures) (c .before .before .if1 .taken) in let x = k .label in let y = k .name in let m = l .inv .0 ∙ s .pre .0 in omega arith
+known c =
+    let s = c .before .before .before .before .before .before .before in
+    let l = c .before .before .before .before .loop in
+    let r = c .before .before .record-at in
+    let k = bears (s .args .it .now) (s .pre .1) (l .i) (omega arith) (r .result) (r .ensures) (c .if1 .taken) in
+    (k .label, k .name, l .inv .0 ∙ s .pre .0)
+
+cast-set-bit : tie.Need-cast-set-bit Inv-loop μ-loop
+cast-set-bit c = let k = known (c .before .before) in omega arith
 
 mul-set-bit : tie.Need-mul-set-bit Inv-loop μ-loop
-unfolding count
-mul-set-bit c =
-    let s = c .before .before .before .before .before .before .before .before .before in
-    let l = c .before .before .before .before .before .before .loop in
-    let r = c .before .before .before .before .record-at in
-    let h = valid-few (s .args .it .now) (s .pre .1) in
-    let e : l .i + 1 ≤ count (s .args .it .now) = omega arith in
-    let k = bears (s .args .it .now) (s .pre .1) (l .i) e (r .result) (r .ensures) (c .before .before .if1 .taken) in let x = k .label in let y = k .name in let m = l .inv .0 ∙ s .pre .0 in omega arith
+mul-set-bit c = let k = known (c .before .before) in omega arith
 
 cast-set-bit-2 : tie.Need-cast-set-bit-2 Inv-loop μ-loop
-unfolding count
-cast-set-bit-2 c =
-    let s = c .before .before .before .before .before .before .before .before .before .before in
-    let l = c .before .before .before .before .before .before .before .loop in
-    let r = c .before .before .before .before .before .record-at in
-    let h = valid-few (s .args .it .now) (s .pre .1) in
-    let e : l .i + 1 ≤ count (s .args .it .now) = omega arith in
-    let k = bears (s .args .it .now) (s .pre .1) (l .i) e (r .result) (r .ensures) (c .before .before .before .if1 .taken) in let x = k .label in let y = k .name in let m = l .inv .0 ∙ s .pre .0 in omega arith
+cast-set-bit-2 c = let k = known (c .before .before .before) in omega arith
 
 add-set-bit : tie.Need-add-set-bit Inv-loop μ-loop
-unfolding count
-add-set-bit c =
-    let s = c .before .before .before .before .before .before .before .before .before .before in
-    let l = c .before .before .before .before .before .before .before .loop in
-    let r = c .before .before .before .before .before .record-at in
-    let h = valid-few (s .args .it .now) (s .pre .1) in
-    let e : l .i + 1 ≤ count (s .args .it .now) = omega arith in
-    let k = bears (s .args .it .now) (s .pre .1) (l .i) e (r .result) (r .ensures) (c .before .before .before .if1 .taken) in let x = k .label in let y = k .name in let m = l .inv .0 ∙ s .pre .0 in omega arith
+add-set-bit c = let k = known (c .before .before .before) in omega arith
 
 set-bit-requires : tie.Need-set-bit-requires Inv-loop μ-loop
-unfolding count
-set-bit-requires c κs =
-    let s = c .before .before .before .before .before .before .before .before .before .before in
-    let l = c .before .before .before .before .before .before .before .loop in
-    let r = c .before .before .before .before .before .record-at in
-    let h = valid-few (s .args .it .now) (s .pre .1) in
-    let e : l .i + 1 ≤ count (s .args .it .now) = omega arith in
-    let k = bears (s .args .it .now) (s .pre .1) (l .i) e (r .result) (r .ensures) (c .before .before .before .if1 .taken) in let x = k .label in let y = k .name in let m = l .inv .0 ∙ s .pre .0 in omega arith
+set-bit-requires c κs = let k = known (c .before .before .before) in omega arith
 
 add-i : tie.Need-add-i Inv-loop μ-loop
 add-i c = let s = c .before .before .before .before .before .before .before in let h = valid-few (s .args .it .now) (s .pre .1) in omega arith
@@ -99,12 +76,17 @@ loop-again c =
     let e : l .i + 1 ≤ count (s .args .it .now) = omega arith in
     let m = l .inv .0 ∙ s .pre .0 in
     ⊎-elim
-    (λ v. let k = bears it (s .pre .1) (l .i) e (r .result) (r .ensures) (v .0 .taken) in let x = k .label in let y = k .name in
-      (ap length (v .7) ∙ v .4 .kept .0 ∙ l .inv .0, omega arith,
-        filled-yes (bearing (records it)) (nameCell (records it)) (l .i) (l .names) _ (64 * r .result .label + r .result .name) (k .test) (k .cell) (omega arith) (v .7 ∙ v .4 .ensures) (l .inv .2)))
-    (λ v. (ap length (v .1) ∙ l .inv .0, omega arith,
+    (λ v. let k = bears it (s .pre .1) (l .i) e (r .result) (r .ensures) (v .0 .taken) in let x = k .label in let y = k .name in (
+      ap length (v .7) ∙ v .4 .kept .0 ∙ l .inv .0,
+      omega arith,
+      filled-yes (bearing (records it)) (nameCell (records it)) (l .i) (l .names) _ (64 * r .result .label + r .result .name) (k .test) (k .cell) (omega arith) (v .7 ∙ v .4 .ensures) (l .inv .2),
+    ))
+    (λ v. (
+      ap length (v .1) ∙ l .inv .0,
+      omega arith,
       subst (λ (y : List ℕ). Filled (bearing (records it)) (nameCell (records it)) (l .i + 1) (bits (s .args .names .now)) (bits y)) (sym (v .1))
-      (filled-no (bearing (records it)) (nameCell (records it)) (l .i) (bears-not it (s .pre .1) (l .i) e (r .result) (r .ensures) (v .0 .left)) (l .inv .2))))
+          (filled-no (bearing (records it)) (nameCell (records it)) (l .i) (bears-not it (s .pre .1) (l .i) e (r .result) (r .ensures) (v .0 .left)) (l .inv .2)),
+    ))
     (c .if1 .came)
 
 same-length : tie.Need-same-length Inv-loop μ-loop

@@ -1,16 +1,17 @@
-use Prim.Native.Nat.{_*_, _+_, _-_, _/_, _≤_, ℕ}
+-- `maker::fill_nesting` meets its contract.
+use Prim.Native.Nat.{_*_, _+_, _-_, _/_, _<_, _≤_, ℕ}
 use lib.ListN.{length}
 use mathlib.Core.List.{List}
 use mathlib.Core.Logic.{⊎-elim}
 use mathlib.Core.Path.{_∙_, _≡_, ap, refl, subst, sym}
 use native.Mathlib.Omega.{arith}
+use Rattle.itinerary.specs.Laws.{valid-few, valid-whole}
 use Rattle.maker.specs.Facts.{Filled}
-use Rattle.partners.specs.Facts.{nestCell, standing}
 use Rattle.maker.specs.Laws.{filled-no, filled-none, filled-yes}
-use Rattle.partners.specs.Standing.{stands, stands-not}
 use Rattle.model.specs.Records.{count, records}
 use Rattle.model.specs.Tables.{bits}
-use Rattle.itinerary.specs.Laws.{valid-few, valid-whole}
+use Rattle.partners.specs.Facts.{nestCell, standing}
+use Rattle.partners.specs.Standing.{stands, stands-not}
 use Rattle.maker.proofs.fill_nesting.Statement.{statement}
 use Rattle.maker.proofs.fill_nesting.Tie as tie
 
@@ -38,55 +39,31 @@ add-container-of c = let s = c .before .before .before .before .before .before .
 container-of-requires : tie.Need-container-of-requires Inv-loop μ-loop
 container-of-requires c κs = valid-whole (c .before .before .before .before .before .before .before .args .it .now) (c .before .before .before .before .before .before .before .pre .1)
 
-cast-set-bit : tie.Need-cast-set-bit Inv-loop μ-loop
+-- a record of a valid itinerary has its bit within the table
+known : (c : tie.After-container-of Inv-loop μ-loop) →
+    (c .before .before .before .record-at .result .label < 128) × (c .container-of .result < 64) × (length (c .before .before .before .before .before .loop .table) ≡ 1544)
 unfolding count
-cast-set-bit c =
-    let s = c .before .before .before .before .before .before .before .before .before in
-    let l = c .before .before .before .before .before .before .loop in
-    let r = c .before .before .before .before .record-at in
-    let h = valid-few (s .args .it .now) (s .pre .1) in
-    let e : l .i + 1 ≤ count (s .args .it .now) = omega arith in
-    let q = c .before .container-of in let k = stands (s .args .it .now) (s .pre .1) (l .i) e (r .result) (r .ensures) (q .result) (q .ensures) (c .before .before .if1 .taken) in let x = k .label in let y = k .above in let m = l .inv .0 ∙ s .pre .0 in omega arith
+known c =
+    let s = c .before .before .before .before .before .before .before .before in
+    let l = c .before .before .before .before .before .loop in
+    let r = c .before .before .before .record-at in
+    let k = stands (s .args .it .now) (s .pre .1) (l .i) (omega arith) (r .result) (r .ensures) (c .container-of .result) (c .container-of .ensures) (c .before .if1 .taken) in
+    (k .label, k .above, l .inv .0 ∙ s .pre .0)
+
+cast-set-bit : tie.Need-cast-set-bit Inv-loop μ-loop
+cast-set-bit c = let k = known (c .before) in omega arith
 
 mul-set-bit : tie.Need-mul-set-bit Inv-loop μ-loop
-unfolding count
-mul-set-bit c =
-    let s = c .before .before .before .before .before .before .before .before .before in
-    let l = c .before .before .before .before .before .before .loop in
-    let r = c .before .before .before .before .record-at in
-    let h = valid-few (s .args .it .now) (s .pre .1) in
-    let e : l .i + 1 ≤ count (s .args .it .now) = omega arith in
-    let q = c .before .container-of in let k = stands (s .args .it .now) (s .pre .1) (l .i) e (r .result) (r .ensures) (q .result) (q .ensures) (c .before .before .if1 .taken) in let x = k .label in let y = k .above in let m = l .inv .0 ∙ s .pre .0 in omega arith
+mul-set-bit c = let k = known (c .before) in omega arith
 
 cast-set-bit-2 : tie.Need-cast-set-bit-2 Inv-loop μ-loop
-unfolding count
-cast-set-bit-2 c =
-    let s = c .before .before .before .before .before .before .before .before .before .before in
-    let l = c .before .before .before .before .before .before .before .loop in
-    let r = c .before .before .before .before .before .record-at in
-    let h = valid-few (s .args .it .now) (s .pre .1) in
-    let e : l .i + 1 ≤ count (s .args .it .now) = omega arith in
-    let q = c .before .before .container-of in let k = stands (s .args .it .now) (s .pre .1) (l .i) e (r .result) (r .ensures) (q .result) (q .ensures) (c .before .before .before .if1 .taken) in let x = k .label in let y = k .above in let m = l .inv .0 ∙ s .pre .0 in omega arith
+cast-set-bit-2 c = let k = known (c .before .before) in omega arith
 
 add-set-bit : tie.Need-add-set-bit Inv-loop μ-loop
-unfolding count
-add-set-bit c =
-    let s = c .before .before .before .before .before .before .before .before .before .before in
-    let l = c .before .before .before .before .before .before .before .loop in
-    let r = c .before .before .before .before .before .record-at in
-    let h = valid-few (s .args .it .now) (s .pre .1) in
-    let e : l .i + 1 ≤ count (s .args .it .now) = omega arith in
-    let q = c .before .before .container-of in let k = stands (s .args .it .now) (s .pre .1) (l .i) e (r .result) (r .ensures) (q .result) (q .ensures) (c .before .before .before .if1 .taken) in let x = k .label in let y = k .above in let m = l .inv .0 ∙ s .pre .0 in omega arith
+add-set-bit c = let k = known (c .before .before) in omega arith
 
 set-bit-requires : tie.Need-set-bit-requires Inv-loop μ-loop
-unfolding count
-set-bit-requires c κs =
-    let s = c .before .before .before .before .before .before .before .before .before .before in
-    let l = c .before .before .before .before .before .before .before .loop in
-    let r = c .before .before .before .before .before .record-at in
-    let h = valid-few (s .args .it .now) (s .pre .1) in
-    let e : l .i + 1 ≤ count (s .args .it .now) = omega arith in
-    let q = c .before .before .container-of in let k = stands (s .args .it .now) (s .pre .1) (l .i) e (r .result) (r .ensures) (q .result) (q .ensures) (c .before .before .before .if1 .taken) in let x = k .label in let y = k .above in let m = l .inv .0 ∙ s .pre .0 in omega arith
+set-bit-requires c κs = let k = known (c .before .before) in omega arith
 
 add-i : tie.Need-add-i Inv-loop μ-loop
 add-i c = let s = c .before .before .before .before .before .before .before in let h = valid-few (s .args .it .now) (s .pre .1) in omega arith
@@ -105,12 +82,17 @@ loop-again c =
     let e : l .i + 1 ≤ count (s .args .it .now) = omega arith in
     let m = l .inv .0 ∙ s .pre .0 in
     ⊎-elim
-    (λ v. let k = stands it (s .pre .1) (l .i) e (r .result) (r .ensures) (v .1 .result) (v .1 .ensures) (v .0 .taken) in let x = k .label in let y = k .above in
-      (ap length (v .7) ∙ v .4 .kept .0 ∙ l .inv .0, omega arith,
-        filled-yes (standing (records it)) (nestCell (records it)) (l .i) (l .table) _ (128 * v .1 .result + r .result .label) (k .test) (k .cell) (omega arith) (v .7 ∙ v .4 .ensures) (l .inv .2)))
-    (λ v. (ap length (v .1) ∙ l .inv .0, omega arith,
+    (λ v. let k = stands it (s .pre .1) (l .i) e (r .result) (r .ensures) (v .1 .result) (v .1 .ensures) (v .0 .taken) in let x = k .label in let y = k .above in (
+      ap length (v .7) ∙ v .4 .kept .0 ∙ l .inv .0,
+      omega arith,
+      filled-yes (standing (records it)) (nestCell (records it)) (l .i) (l .table) _ (128 * v .1 .result + r .result .label) (k .test) (k .cell) (omega arith) (v .7 ∙ v .4 .ensures) (l .inv .2),
+    ))
+    (λ v. (
+      ap length (v .1) ∙ l .inv .0,
+      omega arith,
       subst (λ (y : List ℕ). Filled (standing (records it)) (nestCell (records it)) (l .i + 1) (bits (s .args .table .now)) (bits y)) (sym (v .1))
-      (filled-no (standing (records it)) (nestCell (records it)) (l .i) (stands-not it (s .pre .1) (l .i) e (r .result) (r .ensures) (v .0 .left)) (l .inv .2))))
+          (filled-no (standing (records it)) (nestCell (records it)) (l .i) (stands-not it (s .pre .1) (l .i) e (r .result) (r .ensures) (v .0 .left)) (l .inv .2)),
+    ))
     (c .if1 .came)
 
 same-length : tie.Need-same-length Inv-loop μ-loop

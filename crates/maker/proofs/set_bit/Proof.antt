@@ -1,9 +1,10 @@
+-- `maker::set_bit` meets its contract.
 use Prim.Native.Nat.{_%_, _/_, ℕ}
+use borrow.Author.Needs.{needs}
 use mathlib.Core.Path.{ap}
 use native.Mathlib.Omega.{arith}
 use Rattle.closure.specs.Cells.{orAt}
 use Rattle.model.specs.Laws.Bit.{one-shl}
-use borrow.Author.Needs.{needs}
 use Rattle.maker.proofs.set_bit.Statement.{statement}
 use Rattle.maker.proofs.set_bit.Tie as tie
 

@@ -1,8 +1,9 @@
+-- `maker::write_least` meets its contract.
+use borrow.Author.Needs.{needs}
 use mathlib.Core.Path.{_∙_}
 use Rattle.maker.specs.Laws.{made}
 use Rattle.model.specs.Laws.Bytes.{valid-wf}
 use Rattle.model.specs.Records.{records}
-use borrow.Author.Needs.{needs}
 use Rattle.maker.proofs.write_least.Statement.{statement}
 use Rattle.maker.proofs.write_least.Tie as tie
 

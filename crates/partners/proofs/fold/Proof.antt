@@ -1,8 +1,9 @@
-use Rattle.itinerary.specs.Laws.{valid-few}
+-- `partners::fold` meets its contract.
 use Prim.Native.Nat.{_+_, _-_, _/_, _≤_, ℕ}
 use lib.ListN.{length}
-use mathlib.Core.Path.{_∙_, _≡_, ap, refl, subst, sym}
+use mathlib.Core.Path.{_∙_, _≡_, refl, subst, sym}
 use native.Mathlib.Omega.{arith}
+use Rattle.itinerary.specs.Laws.{valid-few}
 use Rattle.model.specs.Laws.Bytes.{at-decode}
 use Rattle.model.specs.Records.{count, records}
 use Rattle.partners.specs.Fold.{Folds}
@@ -47,9 +48,11 @@ loop-again c =
     let s = c .before .before .before .before .before .before .before .before .before .before in
     let l = c .before .before .before .before .before .before .loop in
     let q = c .before .before .aim in
-    let r = c .before .before .before .before .record-at in
-    (q .kept .0 ∙ l .inv .0, omega arith,
-      folds-next (records (s .args .it .now)) (names (s .args .w .now)) (l .i) (l .partners) (q .last .0) (r .result) (r .ensures ∙ sym (at-decode (s .args .it .now) (l .i + 1) (omega arith))) (l .inv .2) (q .ensures))
+    let r = c .before .before .before .before .record-at in (
+      q .kept .0 ∙ l .inv .0,
+      omega arith,
+      folds-next (records (s .args .it .now)) (names (s .args .w .now)) (l .i) (l .partners) (q .last .0) (r .result) (r .ensures ∙ sym (at-decode (s .args .it .now) (l .i + 1) (omega arith))) (l .inv .2) (q .ensures),
+    )
 
 same-length : tie.Need-same-length Inv-loop μ-loop
 same-length c = c .before .loop .inv .0

@@ -1,7 +1,7 @@
-use Rattle.model.specs.Tables.{bits}
-use Rattle.model.specs.Verdicts.{marked}
-use Rattle.reach.specs.Laws.{exposed-is, hinted-is, sealed-is}
+-- `reach::judge` meets its contract.
 use borrow.Author.Needs.{needs}
+use Rattle.model.specs.Tables.{bits}
+use Rattle.reach.specs.Laws.{exposed-is, hinted-is, sealed-is}
 use Rattle.reach.proofs.judge.Statement.{statement}
 use Rattle.reach.proofs.judge.Tie as tie
 use Rattle.reach.proofs.judge.Reads as reads

@@ -1,10 +1,10 @@
+-- `reach::lowest_high` meets its contract.
 use Prim.Native.Nat.{_-_, _<_, _≤_, ℕ}
 use borrow.Author.Count.{below-more}
-use borrow.Author.Needs.{needs}
 use mathlib.Core.Bool.{_&&_, false}
-use mathlib.Core.Path.{_∙_, _≡_, sym}
+use mathlib.Core.Path.{_≡_}
 use native.Mathlib.Omega.{arith}
-use Rattle.model.specs.Tables.{isHigh, suspects}
+use Rattle.model.specs.Tables.{isHigh}
 use Rattle.model.specs.Verdicts.{marked}
 use Rattle.reach.specs.Laws.{found-at, found-nothing}
 use Rattle.reach.proofs.lowest_high.Statement.{statement}

@@ -1,6 +1,6 @@
+-- `reach::lowest_suspect` meets its contract.
 use Prim.Native.Nat.{_-_, _<_, _≤_, ℕ}
 use borrow.Author.Count.{below-more}
-use borrow.Author.Needs.{needs}
 use lib.ListN.{getD}
 use mathlib.Core.Bool.{Bool, _&&_, false}
 use mathlib.Core.Path.{_∙_, _≡_, ap, sym}

@@ -1,5 +1,6 @@
-use Rattle.reach.specs.Laws.{origin-is}
+-- `reach::origin` meets its contract.
 use borrow.Author.Needs.{needs}
+use Rattle.reach.specs.Laws.{origin-is}
 use Rattle.reach.proofs.origin.Statement.{statement}
 use Rattle.reach.proofs.origin.Tie as tie
 

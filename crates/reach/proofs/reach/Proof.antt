@@ -1,3 +1,4 @@
+-- `reach::reach` meets its contract.
 use Prim.Native.Nat.{_-_}
 use borrow.Author.Needs.{needs}
 use lib.ListN.{length}
@@ -7,7 +8,7 @@ use mathlib.Core.Path.{_∙_, _≡_, subst, sym}
 use native.Mathlib.Omega.{arith}
 use Rattle.model.specs.Tables.{bits}
 use Rattle.model.specs.Verdicts.{marked}
-use Rattle.reach.specs.Laws.{Less, less, reach-is, trues-le}
+use Rattle.reach.specs.Laws.{less, reach-is, trues-le}
 use Rattle.reach.specs.Reach.{Sweep, trues}
 use Rattle.tables.specs.Grow.{Grown, Inside, any, finish, on, start}
 use Rattle.reach.proofs.reach.Statement.{statement}

@@ -1,6 +1,7 @@
+-- `reach::size` meets its contract.
 use Prim.Native.Nat.{_+_, _-_, _≤_}
-use lib.ListN.{drop, length}
 use borrow.Author.Needs.{needs}
+use lib.ListN.{drop, length}
 use mathlib.Core.Logic.{⊎-elim}
 use mathlib.Core.Path.{_≡_}
 use native.Mathlib.Omega.{arith}
@@ -38,11 +39,12 @@ loop-again : tie.Need-loop-again Inv-loop μ-loop
 loop-again c =
     let r = c .before .before .before .args .t1 in
     let i = c .before .before .loop .i in
-    let l : length (c .before .before .before .args .t1) ≡ 64 = search needs in
-    (omega arith,
+    let l : length (c .before .before .before .args .t1) ≡ 64 = search needs in (
+      omega arith,
       ⊎-elim (λ v. let t = trues-yes r i (omega arith) (v .0 .taken) in let e = v .1 in omega arith)
-      (λ v. let t = trues-no r i (omega arith) (v .0 .left) in let e = v .1 in omega arith)
-      (c .if1 .came))
+          (λ v. let t = trues-no r i (omega arith) (v .0 .left) in let e = v .1 in omega arith)
+          (c .if1 .came),
+    )
 
 returns : tie.Need-returns Inv-loop μ-loop
 returns c =

@@ -1,3 +1,4 @@
+-- `reach::step` meets its contract.
 use Prim.Native.Nat.{_+_, _-_, _≤_}
 use borrow.Author.Needs.{needs}
 use lib.ListN.{length, length-set}
@@ -49,10 +50,16 @@ loop-again c =
     let t = bits (a .table .now) in
     let at : List Bool → Type 0 = λ y. Grown (Row (bits (a .table .now)) (a .x)) (Below (RowAt (bits (a .table .now)) (a .x)) (p .k + 1)) (marked (a .r)) (marked y) in
     ⊎-elim
-    (λ v. (ap length (v .1) ∙ simp length-set (p .inv .0), omega arith,
-      subst at (sym (v .1)) (row-yes t (a .x) (p .k) (p .q) (omega arith) (omega arith) (sym (c .before .bit .ensures) ∙ v .0 .taken) (p .inv .2))))
-    (λ v. (ap length (v .1) ∙ p .inv .0, omega arith,
-      subst at (sym (v .1)) (row-no t (a .x) (p .k) (sym (c .before .bit .ensures) ∙ v .0 .left) (p .inv .2))))
+    (λ v. (
+      ap length (v .1) ∙ simp length-set (p .inv .0),
+      omega arith,
+      subst at (sym (v .1)) (row-yes t (a .x) (p .k) (p .q) (omega arith) (omega arith) (sym (c .before .bit .ensures) ∙ v .0 .taken) (p .inv .2)),
+    ))
+    (λ v. (
+      ap length (v .1) ∙ p .inv .0,
+      omega arith,
+      subst at (sym (v .1)) (row-no t (a .x) (p .k) (sym (c .before .bit .ensures) ∙ v .0 .left) (p .inv .2)),
+    ))
     (c .if1 .came)
 
 returns : tie.Need-returns Inv-loop μ-loop

@@ -1,3 +1,4 @@
+-- `reach::sweep` meets its contract.
 use Prim.Native.Nat.{_+_, _-_, _≤_}
 use borrow.Author.Needs.{needs}
 use lib.ListN.{length}
@@ -48,10 +49,10 @@ loop-again c =
     let at : List Bool → Type 0 = λ y. Grown (Sweep (bits (a .table .now)) (a .policy .now)) (Below (SweepAt (bits (a .table .now)) (a .policy .now)) (p .x + 1)) (marked (a .r)) (marked y) in
     ⊎-elim
     (λ v. let m : length (v .3 .result) ≡ 64 = search needs in
-      (ap length (v .4) ∙ m ∙ sym l, omega arith, subst at (sym (v .4)) (sweep-yes t (a .policy .now) (p .x) (p .inv .2) (omega arith) (v .0 .taken) (v .2 .taken) (v .3 .ensures))))
+    (ap length (v .4) ∙ m ∙ sym l, omega arith, subst at (sym (v .4)) (sweep-yes t (a .policy .now) (p .x) (p .inv .2) (omega arith) (v .0 .taken) (v .2 .taken) (v .3 .ensures))))
     (⊎-elim
-      (λ v. (ap length (v .3) ∙ p .inv .0, omega arith, subst at (sym (v .3)) (sweep-boundary t (a .policy .now) (p .x) (p .inv .2) (v .2 .left))))
-      (λ v. (ap length (v .1) ∙ p .inv .0, omega arith, subst at (sym (v .1)) (sweep-out t (a .policy .now) (p .x) (p .inv .2) (v .0 .left)))))
+    (λ v. (ap length (v .3) ∙ p .inv .0, omega arith, subst at (sym (v .3)) (sweep-boundary t (a .policy .now) (p .x) (p .inv .2) (v .2 .left))))
+    (λ v. (ap length (v .1) ∙ p .inv .0, omega arith, subst at (sym (v .1)) (sweep-out t (a .policy .now) (p .x) (p .inv .2) (v .0 .left)))))
     (c .if1 .came)
 
 returns : tie.Need-returns Inv-loop μ-loop

@@ -91,16 +91,17 @@ loop-less c = omega (arith, c .before .before .before .before .before .before .b
 -- src/main.rt:370:5
 loop-again : tie.Need-loop-again Inv-loop μ-loop
 loop-again c = (
-    omega (arith, c .before .before .before .before .before .before .before .before .before .before .before .before .before .before .before .before .before .before .before .it .given, c .before .before .before .before .before .before .before .before .before .before .before .before .before .before .before .before .before .before .before .before .before .before .before .before .before .before .before .before .before .before .before .before .before .before .loop .inv .0),
-    omega (arith, c .before .before .before .before .before .before .before .before .before .before .before .before .before .before .before .before .before .it2 .given, c .before .before .before .before .before .before .before .before .before .before .before .before .before .before .before .before .before .before .before .before .before .before .before .before .before .before .before .before .before .before .before .before .before .before .loop .inv .1),
-    omega (arith, c .before .before .before .before .before .before .before .before .before .before .before .before .before .before .before .policy .given, c .before .before .before .before .before .before .before .before .before .before .before .before .before .before .before .before .before .before .before .before .before .before .before .before .before .before .before .before .before .before .before .before .before .before .loop .inv .2),
-    omega (arith, c .before .before .before .before .before .before .before .before .before .before .before .before .before .table .given, c .before .before .before .before .before .before .before .before .before .before .before .before .before .before .before .before .before .before .before .before .before .before .before .before .before .before .before .before .before .before .before .before .before .before .loop .inv .3),
-    omega (arith, c .before .before .before .before .before .before .before .before .before .before .before .table2 .given, c .before .before .before .before .before .before .before .before .before .before .before .before .before .before .before .before .before .before .before .before .before .before .before .before .before .before .before .before .before .before .before .before .before .before .loop .inv .4),
-    omega (arith, c .before .before .before .before .before .before .before .before .before .script .given, c .before .before .before .before .before .before .before .before .before .before .before .before .before .before .before .before .before .before .before .before .before .before .before .before .before .before .before .before .before .before .before .before .before .before .loop .inv .5),
-    omega (arith, c .before .before .before .before .before .before .before .answers .given, c .before .before .before .before .before .before .before .before .before .before .before .before .before .before .before .before .before .before .before .before .before .before .before .before .before .before .before .before .before .before .before .before .before .before .loop .inv .6),
-    omega (arith, c .before .before .before .before .before .answers2 .given, c .before .before .before .before .before .before .before .before .before .before .before .before .before .before .before .before .before .before .before .before .before .before .before .before .before .before .before .before .before .before .before .before .before .before .loop .inv .7),
-    omega (arith, c .before .before .before .sheet .given, c .before .before .before .before .before .before .before .before .before .before .before .before .before .before .before .before .before .before .before .before .before .before .before .before .before .before .before .before .before .before .before .before .before .before .loop .inv .8),
-    omega (arith, c .before .sheet2 .given, c .before .before .before .before .before .before .before .before .before .before .before .before .before .before .before .before .before .before .before .before .before .before .before .before .before .before .before .before .before .before .before .before .before .before .loop .inv .9))
+  omega (arith, c .before .before .before .before .before .before .before .before .before .before .before .before .before .before .before .before .before .before .before .it .given, c .before .before .before .before .before .before .before .before .before .before .before .before .before .before .before .before .before .before .before .before .before .before .before .before .before .before .before .before .before .before .before .before .before .before .loop .inv .0),
+  omega (arith, c .before .before .before .before .before .before .before .before .before .before .before .before .before .before .before .before .before .it2 .given, c .before .before .before .before .before .before .before .before .before .before .before .before .before .before .before .before .before .before .before .before .before .before .before .before .before .before .before .before .before .before .before .before .before .before .loop .inv .1),
+  omega (arith, c .before .before .before .before .before .before .before .before .before .before .before .before .before .before .before .policy .given, c .before .before .before .before .before .before .before .before .before .before .before .before .before .before .before .before .before .before .before .before .before .before .before .before .before .before .before .before .before .before .before .before .before .before .loop .inv .2),
+  omega (arith, c .before .before .before .before .before .before .before .before .before .before .before .before .before .table .given, c .before .before .before .before .before .before .before .before .before .before .before .before .before .before .before .before .before .before .before .before .before .before .before .before .before .before .before .before .before .before .before .before .before .before .loop .inv .3),
+  omega (arith, c .before .before .before .before .before .before .before .before .before .before .before .table2 .given, c .before .before .before .before .before .before .before .before .before .before .before .before .before .before .before .before .before .before .before .before .before .before .before .before .before .before .before .before .before .before .before .before .before .before .loop .inv .4),
+  omega (arith, c .before .before .before .before .before .before .before .before .before .script .given, c .before .before .before .before .before .before .before .before .before .before .before .before .before .before .before .before .before .before .before .before .before .before .before .before .before .before .before .before .before .before .before .before .before .before .loop .inv .5),
+  omega (arith, c .before .before .before .before .before .before .before .answers .given, c .before .before .before .before .before .before .before .before .before .before .before .before .before .before .before .before .before .before .before .before .before .before .before .before .before .before .before .before .before .before .before .before .before .before .loop .inv .6),
+  omega (arith, c .before .before .before .before .before .answers2 .given, c .before .before .before .before .before .before .before .before .before .before .before .before .before .before .before .before .before .before .before .before .before .before .before .before .before .before .before .before .before .before .before .before .before .before .loop .inv .7),
+  omega (arith, c .before .before .before .sheet .given, c .before .before .before .before .before .before .before .before .before .before .before .before .before .before .before .before .before .before .before .before .before .before .before .before .before .before .before .before .before .before .before .before .before .before .loop .inv .8),
+  omega (arith, c .before .sheet2 .given, c .before .before .before .before .before .before .before .before .before .before .before .before .before .before .before .before .before .before .before .before .before .before .before .before .before .before .before .before .before .before .before .before .before .before .loop .inv .9),
+)
 
 -- src/main.rt:355:1
 same-length-11 : tie.Need-same-length-11 Inv-loop μ-loop

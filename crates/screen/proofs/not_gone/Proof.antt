@@ -52,9 +52,10 @@ loop-less c = search needs
 -- src/lib.rt:30:5
 loop-again : tie.Need-loop-again Inv-loop μ-loop
 loop-again c = (
-    search needs,
-    omega (arith, c .present .ensures .1),
-    one-more _ (c .before .before .before .before .before .pre .0) _ _ _ _ (c .before .before .before .loop .inv .2) (c .before .byte-of .ensures) (c .present .ensures .0))
+  search needs,
+  omega (arith, c .present .ensures .1),
+  one-more _ (c .before .before .before .before .before .pre .0) _ _ _ _ (c .before .before .before .loop .inv .2) (c .before .byte-of .ensures) (c .present .ensures .0),
+)
 
 -- src/lib.rt:23:1
 returns : tie.Need-returns Inv-loop μ-loop

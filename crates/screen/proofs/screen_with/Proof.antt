@@ -98,11 +98,13 @@ same-length-8 c = search needs
 returns-3 : tie.Need-returns-3
 unfolding screenedAs
 returns-3 c = let m = made-done (c .before .before .before .before .before .before .before .before .before .before .before .before .before .before .before .before .before .before .before .make .ensures .0) (c .before .before .before .before .before .before .before .before .before .before .before .before .before .before .before .ones .given .1) in
-    let k = run-leaves _ _ _ _ _ (c .before .before .before .before .before .before .before .before .before .before .before .before .before .before .before .before .before .before .before .before .before .before .before .before .before .before .before .pre) _ m in
-    (screen-done _ _ _ _ _ (c .before .before .before .before .before .before .before .before .before .before .before .before .before .before .before .before .before .before .before .before .before .before .before .before .before .before .before .pre) _ m _ (ran-done (c .before .before .before .before .before .before .before .before .before .run .ensures .0) (c .before .before .before .counts .given .1))
-        _ (c .before .before .before .before .before .before .before .before .before .before .before .before .judge .ensures ∙ ap (λ t. verdictOf (parts (bits t)) (c .before .before .before .before .before .before .before .before .before .before .before .before .before .before .before .before .before .before .before .before .before .before .before .before .before .before .before .args .policy .now)) (c .before .before .before .before .before .before .before .before .before .before .before .before .before .before .before .before .before .before .before .make .ensures .1))
-        _ (c .not-gone .ensures ∙ ap (λ s. notGone (records s)) (c .before .before .before .before .before .before .before .before .before .run .ensures .1)),
-      c .before .before .before .before .before .before .before .before .before .run .ensures .1 ∙ sym (k .0), c .before .before .before .before .before .before .before .before .before .run .ensures .2 ∙ sym (k .1))
+    let k = run-leaves _ _ _ _ _ (c .before .before .before .before .before .before .before .before .before .before .before .before .before .before .before .before .before .before .before .before .before .before .before .before .before .before .before .pre) _ m in (
+      screen-done _ _ _ _ _ (c .before .before .before .before .before .before .before .before .before .before .before .before .before .before .before .before .before .before .before .before .before .before .before .before .before .before .before .pre) _ m _ (ran-done (c .before .before .before .before .before .before .before .before .before .run .ensures .0) (c .before .before .before .counts .given .1))
+          _ (c .before .before .before .before .before .before .before .before .before .before .before .before .judge .ensures ∙ ap (λ t. verdictOf (parts (bits t)) (c .before .before .before .before .before .before .before .before .before .before .before .before .before .before .before .before .before .before .before .before .before .before .before .before .before .before .before .args .policy .now)) (c .before .before .before .before .before .before .before .before .before .before .before .before .before .before .before .before .before .before .before .make .ensures .1))
+          _ (c .not-gone .ensures ∙ ap (λ s. notGone (records s)) (c .before .before .before .before .before .before .before .before .before .run .ensures .1)),
+      c .before .before .before .before .before .before .before .before .before .run .ensures .1 ∙ sym (k .0),
+      c .before .before .before .before .before .before .before .before .before .run .ensures .2 ∙ sym (k .1),
+    )
 
 pub screen-with-spec : {M : Type 1} → statement M
 screen-with-spec =

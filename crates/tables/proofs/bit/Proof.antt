@@ -1,5 +1,6 @@
-use Rattle.model.specs.Tables.{bitAt, testBit}
+-- `tables::bit` meets its contract.
 use borrow.Author.Needs.{needs}
+use Rattle.model.specs.Tables.{bitAt, testBit}
 use Rattle.tables.proofs.bit.Statement.{statement}
 use Rattle.tables.proofs.bit.Tie as tie
 

@@ -1,3 +1,4 @@
+-- `tables::clear_bits` meets its contract.
 use Prim.Native.Nat.{_*_, _+_, _-_, _<_, _≤_, ℕ}
 use borrow.Author.Count.{below-more}
 use mathlib.Core.Bool.{false, not}

@@ -1,3 +1,4 @@
+-- `tables::policy_right` meets its contract.
 use Prim.Native.Nat.{_-_, _<_, _≤_, ℕ}
 use borrow.Author.Count.{below-more}
 use lib.ListN.{getD}

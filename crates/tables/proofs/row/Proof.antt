@@ -1,9 +1,10 @@
+-- `tables::row` meets its contract.
+use borrow.Author.Needs.{needs}
 use borrow.Author.Tests.{eq-eqb, le-leb, lt-leb, ne-eqb}
-use native.Mathlib.Omega.{arith}
 use native.Mathlib.Nat.{add-sub-cancel-left}
+use native.Mathlib.Omega.{arith}
 use Rattle.model.specs.Tables.{partIf, rowOf, tableSized}
 use Rattle.tables.specs.Place.{rowStart, startIf}
-use borrow.Author.Needs.{needs}
 use Rattle.tables.proofs.row.Statement.{statement}
 use Rattle.tables.proofs.row.Tie as tie
 

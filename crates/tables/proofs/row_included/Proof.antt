@@ -1,3 +1,4 @@
+-- `tables::row_included` meets its contract.
 use Prim.Native.Nat.{_-_, _<_, _≤_, ℕ}
 use borrow.Author.Count.{below-more}
 use lib.Bits.{bitOr}

@@ -1,7 +1,8 @@
+-- `tables::table_right` meets its contract.
+use borrow.Author.Needs.{needs}
 use borrow.Author.Tests.{not-false, not-true}
 use mathlib.Core.Path.{_∙_, sym}
 use Rattle.tables.specs.Loops.{table-first, table-long, table-second}
-use borrow.Author.Needs.{needs}
 use Rattle.tables.proofs.table_right.Statement.{statement}
 use Rattle.tables.proofs.table_right.Tie as tie
 

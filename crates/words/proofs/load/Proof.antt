@@ -1,3 +1,4 @@
+-- `words::load` meets its contract.
 use Prim.Native.Nat.{_*_, _-_, _<_, _≤_, ℕ}
 use lib.ListN.{drop, getD, length, length-set, take}
 use mathlib.Core.Path.{_∙_, _≡_, refl}

@@ -1,3 +1,4 @@
+-- `words::store` meets its contract.
 use Prim.Native.Nat.{_%_, _*_, _-_, _/_, _<_, _^_, _≤_, ℕ}
 use lib.ListN.{getD, length, length-set}
 use mathlib.Core.Path.{_∙_, _≡_, refl}
@@ -42,9 +43,11 @@ loop-less c = omega arith
 loop-again : tie.Need-loop-again Inv-loop μ-loop
 loop-again c =
     let a = c .before .before .before .args in
-    let l = c .before .before .loop in
-    (simp length-set (l .inv .0), omega arith,
-      fill-next (λ k. getD (a .w .now) (k / 8) 0 / 2 ^ (8 * (k % 8)) % 2 ^ 8) (l .t) (l .i) _ (omega arith) (l .inv .2) refl)
+    let l = c .before .before .loop in (
+      simp length-set (l .inv .0),
+      omega arith,
+      fill-next (λ k. getD (a .w .now) (k / 8) 0 / 2 ^ (8 * (k % 8)) % 2 ^ 8) (l .t) (l .i) _ (omega arith) (l .inv .2) refl,
+    )
 
 same-length : tie.Need-same-length Inv-loop μ-loop
 same-length c = c .before .loop .inv .0

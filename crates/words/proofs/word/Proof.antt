@@ -1,3 +1,4 @@
+-- `words::word` meets its contract.
 use Prim.Native.Nat.{_+_, _-_, _≤_, ℕ}
 use lib.ListN.{drop, take}
 use mathlib.Core.Path.{_∙_, _≡_, ap, refl}

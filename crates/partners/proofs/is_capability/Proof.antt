@@ -1,0 +1,10 @@
+-- `partners::is_capability` meets its contract.
+use borrow.Author.Needs.{needs}
+use Rattle.partners.proofs.is_capability.Statement.{statement}
+use Rattle.partners.proofs.is_capability.Tie as tie
+
+returns : tie.Need-returns
+returns c = search needs
+
+pub is-capability-spec : {M : Type 1} → statement M
+is-capability-spec = tie.close (tie.spec returns)
