@@ -21,7 +21,7 @@ use Rattle.model.specs.Laws.WellFormed.{and-left}
 use Rattle.model.specs.Numbers.{readingBy, readingOf, refusal, validatedAs}
 use Rattle.model.specs.Records.{at, byte, byteOf, count, decode, isAmbient, parentOf, records, word}
 use Rattle.model.specs.Refusals.{Check, andThen, answer, content, done, eachOf, need, pass, refuse, refused}
-use Rattle.model.specs.Validity.{climbCheck, labelRight, nameRight, parentRight, recordCheck, sizeRight, validity}
+use Rattle.model.specs.Validity.{climbCheck, labelRight, nameRight, parentRight, recordCheck, sizeRight, spareRight, validity}
 use Rattle.model.specs.declared.Reading.the-variants.{Record, Refused}
 use Rattle.model.specs.declared.Rec.{Rec}
 use Rattle.model.specs.declared.Refusal.{Refusal}
@@ -38,6 +38,12 @@ pub byte-of : (s : List ℕ) (i k : ℕ) → i ≢ 0 → byteOf s i k ≡ byte s
 unfolding byteOf
 byte-of s zero k h = absurd (h refl)
 byte-of s (suc i) k h = let e : i ≡ suc i - 1 = omega arith in ap (λ j. byte s (8 * j + k)) e
+
+-- the spare bytes of a record, read directly
+pub spare-direct : (s : List ℕ) (i : ℕ) → i ≢ 0 →
+    (eqb (byte s (8 * (i - 1) + 3)) 0 && (eqb (byte s (8 * (i - 1) + 6)) 0 && eqb (byte s (8 * (i - 1) + 7)) 0)) ≡ spareRight s i
+unfolding spareRight
+spare-direct s i h = rw (byte-of s i 3 h, byte-of s i 6 h, byte-of s i 7 h)
 
 -- the parent of a record, and a whole record, read directly
 pub parent-direct : (s : List ℕ) (i p : ℕ) → i ≢ 0 → p ≡ word (byte s (8 * (i - 1) + 4)) (byte s (8 * (i - 1) + 5)) → p ≡ decode s i .parent

@@ -82,11 +82,25 @@ pub fn nested(r: Rec) -> bool
     (1 <= r.kind) & (r.kind <= 4)
 }
 
+// Whether the spare bytes of record i are zero, byte by byte, as `edge_at`.
+fn spare_edge(it: &[u8], i: u16) -> bool
+    ensures { λ b. ⌜ b ≡ spareRight (now (it .entry)) i ⌝ }
+{
+    (byte_of(it, i, 3) == 0) & ((byte_of(it, i, 6) == 0) & (byte_of(it, i, 7) == 0))
+}
+
 // Whether the spare bytes of record i are zero.
 fn spare_right(it: &[u8], i: u16) -> bool
     ensures { λ b. ⌜ b ≡ spareRight (now (it .entry)) i ⌝ }
 {
-    (byte_of(it, i, 3) == 0) & ((byte_of(it, i, 6) == 0) & (byte_of(it, i, 7) == 0))
+    if i == 0 {
+        return spare_edge(it, i);
+    }
+    let at = 8 * ((i as usize) - 1);
+    if it.len() < at + 8 {
+        return spare_edge(it, i);
+    }
+    (it[at + 3] == 0) & ((it[at + 6] == 0) & (it[at + 7] == 0))
 }
 
 // Whether a gone record is all zero.
