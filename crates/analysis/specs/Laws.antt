@@ -8,7 +8,7 @@ use mathlib.Core.Path.{_∙_, _≡_, ap, refl, sym}
 use Rattle.itinerary.specs.Laws.{answer-refused, content-kept, content-new, done-answer, need-refuse, refuse-answer, then-next, then-refuse}
 use Rattle.model.specs.Analysis.{free, holds}
 use Rattle.model.specs.Calls.{checkAnswer, checking, makeAfter, makeAnswer, making, verdictAnswer}
-use Rattle.model.specs.Laws.Checks.{answer-done, need-make, need-pass, then-pass}
+use Rattle.model.specs.Laws.Checks.{answer-done, need-make, need-pass, table-length, then-pass}
 use Rattle.model.specs.Laws.WellFormed.{and-left}
 use Rattle.model.specs.Least.{leastTable}
 use Rattle.model.specs.Numbers.{performedAs, refusal}
@@ -25,10 +25,6 @@ use Rattle.model.specs.declared.Verdict.{Verdict}
 pub policy-length : (policy : List ℕ) → policyRight policy ≡ true → length policy ≡ 64
 unfolding policyRight
 policy-length policy h = eqb-true _ _ (and-left _ _ h)
-
-pub table-length : (table : List ℕ) → tableRight table ≡ true → length table ≡ 1544
-unfolding tableRight tableSized
-table-length table h = eqb-true _ _ (and-left _ _ h)
 
 module _ (s policy table : List ℕ) where
   -- ---- the table check

@@ -18,7 +18,7 @@ use Rattle.model.specs.Climbing.{container}
 use Rattle.model.specs.Finite.{every, someOf}
 use Rattle.model.specs.Laws.Bit.{or-bit, zero-bit}
 use Rattle.model.specs.Laws.Bytes.{length-records, valid-wf}
-use Rattle.model.specs.Laws.Checks.{and-make, onlyIf-make, onlyIf-use}
+use Rattle.model.specs.Laws.Checks.{and-make, bool-iff, onlyIf-make, onlyIf-use}
 use Rattle.model.specs.Laws.Done.{cap-alive}
 use Rattle.model.specs.Laws.Finite.{every-make, every-use, someOf-make, someOf-use}
 use Rattle.model.specs.Laws.Holding.{holds-complete, holds-sound}
@@ -32,7 +32,7 @@ use Rattle.partners.specs.Facts.{AllRules, Facts, Wanted, bearing, nameCell, ne
 use Rattle.partners.specs.Fold.{Folds, slot}
 use Rattle.partners.specs.Laws.{RuleOf, cap-kind, cap-two, capable, closed-rule, kind-cap, kindOf, names, rules-closed, slot-kind, slot-label}
 use Rattle.partners.specs.Standing.{facts-holds, holds-facts, holds-rules, read-at}
-use Rattle.tables.specs.Bit.{bool-iff, is-false}
+use Rattle.tables.specs.Bit.{is-false}
 use Rattle.tables.specs.Grow.{Set}
 
 -- ---- facts

@@ -13,7 +13,7 @@ use native.Mathlib.Omega.{arith}
 use Rattle.model.specs.Calls.{validateAnswer}
 use Rattle.model.specs.Climbing.{View, reaches, reaching, view, viewFrom}
 use Rattle.model.specs.Laws.Bytes.{rec-path, at-whole, length-records, passed, size-le, size-whole, sound-record}
-use Rattle.model.specs.Laws.Checks.{answer-done, each-pass, need-make}
+use Rattle.model.specs.Laws.Checks.{answer-done, bool-iff, each-pass, need-make}
 use Rattle.model.specs.Laws.Forest.{Depth, above, depth-le, under-of}
 use Rattle.model.specs.Laws.Updates.{at-over, at-root}
 use Rattle.model.specs.Laws.Views.{depth-reaches, from-lost, from-on, from-top, reaches-depth}
@@ -265,11 +265,6 @@ unfolding isAmbient
 ambient-not r h = ne-eqb _ _ h
 
 -- reaching the environment, past refusals 1 to 5
-same-truth : (a b : Bool) → (a ≡ true → b ≡ true) → (b ≡ true → a ≡ true) → a ≡ b
-same-truth true b f g = sym (f refl)
-same-truth false true f g = g refl
-same-truth false false f g = refl
-
 module _ {s : List ℕ} (p : Parented s) where
   depth-found : (i : ℕ) → i ≤ count s → {d : ℕ} → Depth (parentOf (records s)) i d → reaches (records s) i ≡ true
   unfolding reaches
@@ -290,7 +285,7 @@ module _ {s : List ℕ} (p : Parented s) where
     parent-inside = rw up at (p .parents i)
 
     pub reach-above : reaches (records s) (r .parent) ≡ reaches (records s) i
-    reach-above = same-truth _ _
+    reach-above = bool-iff _ _
         (λ h. depth-found i l (under-of z up (found-depth (r .parent) h .1)))
         (λ h. let a = above (found-depth i h .1) z in depth-found (r .parent) parent-inside (rw up at (a .2)))
 

@@ -1,6 +1,6 @@
 -- Laws of the sheet as the code makes it.
 use Prim.Native.Nat.{_-_, _<_, _≤_, ℕ}
-use borrow.Author.Tests.{eq-eqb, eqb-true, ne-eqb}
+use borrow.Author.Tests.{eq-eqb, ne-eqb}
 use lib.ListN.{getD, length, length-replicate, set}
 use lib.Seq.{getD-set-other, getD-set-same}
 use mathlib.Core.Bool.{Bool, false, true}
@@ -16,20 +16,16 @@ use Rattle.model.specs.Laws.Bytes.{at-whole, length-records, valid-wf}
 use Rattle.model.specs.Laws.Checks.{need-make}
 use Rattle.model.specs.Laws.Containers.{hidden-suspect, hidden-up}
 use Rattle.model.specs.Laws.Forest.{above, depth-le}
-use Rattle.model.specs.Laws.WellFormed.{WellFormed, and-left, parent-in, small}
+use Rattle.model.specs.Laws.WellFormed.{WellFormed, parent-in, small}
 use Rattle.model.specs.Numbers.{refusal}
 use Rattle.model.specs.Observer.{onSheet, sheetOf}
 use Rattle.model.specs.Records.{at, count, decode, isAmbient, parentOf, records}
 use Rattle.model.specs.Refusals.{done, pass, refuse}
-use Rattle.model.specs.Tables.{suspects, tableRight, tableSized}
+use Rattle.model.specs.Tables.{suspects, tableRight}
 use Rattle.model.specs.Validity.{validity}
 use Rattle.model.specs.declared.Rec.{Rec}
 use Rattle.model.specs.declared.Refusal.{Refusal}
 use Rattle.observer.specs.Marks.{Markable, Marked, Near, shownIf}
-
-pub table-long : (table : List ℕ) → tableRight table ≡ true → length table ≡ 1544
-unfolding tableRight tableSized
-table-long table h = eqb-true _ _ (and-left _ _ h)
 
 -- r is record i of a valid itinerary
 module _ (s : List ℕ) (v : validity s ≡ pass) (i : ℕ) (r : Rec) (e : r ≡ decode s i) where

@@ -1,5 +1,5 @@
 -- Sets as lists of truth values, and the steps to R.
-use Prim.Native.Nat.{_*_, _+_, _<_, _≤_, suc, suc-le-suc, zero, zero-le, ℕ}
+use Prim.Native.Nat.{_*_, _+_, _<_, _≤_, suc, suc-le-suc, zero, ℕ}
 use borrow.Author.Tests.{eqb-false, ne-eqb, not-true}
 use lib.ListN.{drop, getD, length, replicate, set}
 use lib.Seq.{drop-cons, drop-length, getD-set-other, getD-set-same}
@@ -14,12 +14,12 @@ use native.Mathlib.Omega.{arith}
 use Rattle.model.specs.Finite.{lowest}
 use Rattle.model.specs.Laws.Checks.{and-make}
 use Rattle.model.specs.Laws.Finite.{lowest-make, lowest-nothing}
-use Rattle.model.specs.Laws.Reach.{reached-below, reached-inside, reached-next, reached-start}
+use Rattle.model.specs.Laws.Reach.{reached-below, reached-inside, reached-next, reached-start, trues}
 use Rattle.model.specs.Laws.WellFormed.{and-left, and-right}
 use Rattle.model.specs.Tables.{isBoundary, isHigh, parts, placeI}
 use Rattle.model.specs.Verdicts.{inR, marked, opening, reached, verdictBy, verdictOf}
 use Rattle.model.specs.declared.Verdict.the-variants.{Exposed, Hinted, Sealed}
-use Rattle.reach.specs.Reach.{Origin, Row, Sweep, foundAs, trues}
+use Rattle.reach.specs.Reach.{Origin, Row, Sweep, foundAs}
 use Rattle.reach.specs.declared.Found.{Found}
 use Rattle.reach.specs.declared.Found.the-variants.{At, Nothing}
 use Rattle.tables.specs.Grow.{Below, Grown, Inside, Set, Smallest, loop-end, loop-next, loop-skip, same}
@@ -80,12 +80,6 @@ module _ (t : Set) (policy : List ℕ) (x : ℕ) {s s₁ : Set} (g : Grown (Swee
   sweep-end e = loop-end (SweepAt t policy) 64 x e (λ u r. r) g
 
 -- ---- the count
-
-pub trues-le : (xs : List Bool) → trues xs ≤ length xs
-unfolding trues
-trues-le [] = zero-le
-trues-le (true ∷ xs) = suc-le-suc (trues-le xs)
-trues-le (false ∷ xs) = le-step (trues-le xs)
 
 module _ (r : List Bool) (i : ℕ) (h : i < length r) where
   first : drop i r ≡ getD r i false ∷ drop (i + 1) r

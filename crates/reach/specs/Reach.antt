@@ -1,8 +1,8 @@
 -- What the functions of the search establish.
-use Prim.Native.Nat.{_*_, _+_, _<_, suc, ℕ}
+use Prim.Native.Nat.{_*_, _+_, _<_, ℕ}
 use lib.ListN.{getD}
-use mathlib.Core.Bool.{Bool, false, true}
-use mathlib.Core.List.{List, [], _∷_}
+use mathlib.Core.Bool.{true}
+use mathlib.Core.List.{List}
 use mathlib.Core.Option.{Option, none, some}
 use mathlib.Core.Path.{_≡_}
 use Rattle.reach.specs.declared.Found.{Found}
@@ -16,11 +16,6 @@ Row t x u = (k : ℕ) → k < 64 → t (128 * x + k) ≡ true → u k ≡ true
 -- and so for each x of u whose class is not boundary
 unfoldable pub Sweep : Set → List ℕ → Set → Type 0
 Sweep t policy u = (x : ℕ) → x < 64 → u x ≡ true → (getD policy x 0 ≡ 2 → ⊥) → Row t x u
-
-unfoldable pub trues : List Bool → ℕ
-trues [] = 0
-trues (true ∷ xs) = suc (trues xs)
-trues (false ∷ xs) = trues xs
 
 -- u has 0 alone
 pub record Origin (u : Set) : Type 0 where

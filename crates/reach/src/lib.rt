@@ -5,10 +5,11 @@ ghost use mathlib.Core.Bool.{_&&_};
 ghost use Prim.Native.Nat.{_<_};
 ghost use lib.ListN.{length};
 ghost use Rattle.model.specs.Finite.{lowest};
+ghost use Rattle.model.specs.Laws.Reach.{trues};
 ghost use Rattle.model.specs.Tables.{bits, isHigh, parts, suspects};
 ghost use Rattle.model.specs.Verdicts.{inR, marked, verdictOf};
 ghost use Rattle.tables.specs.Grow.{Grown};
-ghost use Rattle.reach.specs.Reach.{Origin, Row, Sweep, foundAs, trues};
+ghost use Rattle.reach.specs.Reach.{Origin, Row, Sweep, foundAs};
 
 // The lowest label that a search finds, if any.
 pub enum Found {

@@ -6,12 +6,6 @@ pub or-left : (a b : Bool) → a ≡ true → (a || b) ≡ true
 or-left true b h = refl
 or-left false b h = absurd (true≢false (sym h))
 
--- two tests that imply each other are one
-pub bool-iff : (a b : Bool) → (a ≡ true → b ≡ true) → (b ≡ true → a ≡ true) → a ≡ b
-bool-iff true b f g = sym (f refl)
-bool-iff false true f g = g refl
-bool-iff false false f g = refl
-
 -- a test that never passes
 pub is-false : (a : Bool) → (a ≡ true → ⊥) → a ≡ false
 is-false true f = absurd (f refl)

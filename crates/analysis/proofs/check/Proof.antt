@@ -2,7 +2,8 @@
 use borrow.Author.Needs.{needs}
 use borrow.Author.Tests.{not-false, not-true}
 use mathlib.Core.Path.{_∙_, sym}
-use Rattle.analysis.specs.Laws.{check-done, check-form, check-holding, check-invalid, check-passes, check-policy, check-refused, policy-length, table-length}
+use Rattle.analysis.specs.Laws.{check-done, check-form, check-holding, check-invalid, check-passes, check-policy, check-refused, policy-length}
+use Rattle.model.specs.Laws.Checks.{table-length}
 use Rattle.itinerary.specs.Laws.{validate-pass, validate-refuse}
 use Rattle.model.specs.Numbers.{performedAs}
 use Rattle.analysis.proofs.check.Statement.{statement}

@@ -1,11 +1,16 @@
 -- The laws of checks in sequence, and of what they let through.
 use Prim.Native.Nat.{_+_, _<_, _≤_, suc, zero, ℕ}
+use borrow.Author.Tests.{eqb-true}
+use lib.ListN.{length}
 use mathlib.Core.Bool.{Bool, _&&_, _||_, false, true, true≢false}
+use mathlib.Core.List.{List}
 use mathlib.Core.Path.{_≡_, refl, sym}
 use native.Mathlib.Decide.{ℕ-discrete}
 use native.Mathlib.Omega.{arith}
 use Rattle.model.specs.Analysis.{onlyIf}
+use Rattle.model.specs.Laws.WellFormed.{and-left}
 use Rattle.model.specs.Refusals.{Check, andThen, answer, done, eachOf, need, pass, refuse}
+use Rattle.model.specs.Tables.{tableRight, tableSized}
 
 pub then-pass : (a b : Check) → andThen a b ≡ pass → (a ≡ pass) × (b ≡ pass)
 unfolding andThen
@@ -71,3 +76,14 @@ pub onlyIf-make : (a b : Bool) → (a ≡ true → b ≡ true) → onlyIf a b �
 unfolding onlyIf
 onlyIf-make true b f = f refl
 onlyIf-make false b f = refl
+
+-- truth values are equal when each follows from the other
+pub bool-iff : (a b : Bool) → (a ≡ true → b ≡ true) → (b ≡ true → a ≡ true) → a ≡ b
+bool-iff true b f g = sym (f refl)
+bool-iff false true f g = g refl
+bool-iff false false f g = refl
+
+-- a table that 8 lets through is 1,544 bytes long
+pub table-length : (table : List ℕ) → tableRight table ≡ true → length table ≡ 1544
+unfolding tableRight tableSized
+table-length table h = eqb-true _ _ (and-left _ _ h)

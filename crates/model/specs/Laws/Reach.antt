@@ -14,12 +14,13 @@ use Rattle.model.specs.Laws.Finite.{getD-tabulate, length-tabulate, some
 use Rattle.model.specs.Laws.WellFormed.{and-left, and-right}
 use Rattle.model.specs.Verdicts.{alike, growing, grown, joins, marked, reached}
 
-trues : List Bool → ℕ
+-- how many are true
+unfoldable pub trues : List Bool → ℕ
 trues [] = 0
 trues (true ∷ xs) = suc (trues xs)
 trues (false ∷ xs) = trues xs
 
-trues-le : (xs : List Bool) → trues xs ≤ length xs
+pub trues-le : (xs : List Bool) → trues xs ≤ length xs
 unfolding trues
 trues-le [] = omega arith
 trues-le (true ∷ xs) = omega (arith, trues-le xs)

@@ -4,7 +4,8 @@ use borrow.Author.Tests.{not-false, not-true}
 use mathlib.Core.Path.{_∙_, sym}
 use Rattle.itinerary.specs.Laws.{validate-pass, validate-refuse}
 use Rattle.model.specs.Numbers.{performedAs}
-use Rattle.observer.specs.Laws.{sheet-14, sheet-8, sheet-done, sheet-invalid, sheet-pass, sheet-refused, table-long}
+use Rattle.observer.specs.Laws.{sheet-14, sheet-8, sheet-done, sheet-invalid, sheet-pass, sheet-refused}
+use Rattle.model.specs.Laws.Checks.{table-length}
 use Rattle.observer.proofs.sheet.Statement.{statement}
 use Rattle.observer.proofs.sheet.Tie as tie
 
@@ -33,7 +34,7 @@ unfolding performedAs
 returns-3 c = sheet-refused _ _ _ _ (sheet-14 _ _ _ (validate-pass _ _ (c .before .before .before .before .before .validate .ensures) (c .before .before .before .enum-told .given .1)) (sym (c .before .before .table-right .ensures) ∙ not-false _ (c .before .if1 .left)) (c .if2 .taken))
 
 fill-requires : tie.Need-fill-requires
-fill-requires c κs = (validate-pass _ _ (c .before .before .before .before .before .before .validate .ensures) (c .before .before .before .before .enum-told .given .1), table-long _ (sym (c .before .before .before .table-right .ensures) ∙ not-false _ (c .before .before .if1 .left)), c .before .if2 .left)
+fill-requires c κs = (validate-pass _ _ (c .before .before .before .before .before .before .validate .ensures) (c .before .before .before .before .enum-told .given .1), table-length _ (sym (c .before .before .before .table-right .ensures) ∙ not-false _ (c .before .before .if1 .left)), c .before .if2 .left)
 
 same-length : tie.Need-same-length
 same-length c = search needs

@@ -8,8 +8,9 @@ use mathlib.Core.Path.{_∙_, _≡_, subst, sym}
 use native.Mathlib.Omega.{arith}
 use Rattle.model.specs.Tables.{bits}
 use Rattle.model.specs.Verdicts.{marked}
-use Rattle.reach.specs.Laws.{less, reach-is, trues-le}
-use Rattle.reach.specs.Reach.{Sweep, trues}
+use Rattle.model.specs.Laws.Reach.{trues, trues-le}
+use Rattle.reach.specs.Laws.{less, reach-is}
+use Rattle.reach.specs.Reach.{Sweep}
 use Rattle.tables.specs.Grow.{Grown, Inside, any, finish, on, start}
 use Rattle.reach.proofs.reach.Statement.{statement}
 use Rattle.reach.proofs.reach.Tie as tie

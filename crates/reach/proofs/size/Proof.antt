@@ -5,8 +5,8 @@ use lib.ListN.{drop, length}
 use mathlib.Core.Logic.{⊎-elim}
 use mathlib.Core.Path.{_≡_}
 use native.Mathlib.Omega.{arith}
-use Rattle.reach.specs.Laws.{trues-end, trues-le, trues-no, trues-yes}
-use Rattle.reach.specs.Reach.{trues}
+use Rattle.model.specs.Laws.Reach.{trues, trues-le}
+use Rattle.reach.specs.Laws.{trues-end, trues-no, trues-yes}
 use Rattle.reach.proofs.size.Statement.{statement}
 use Rattle.reach.proofs.size.Tie as tie
 
