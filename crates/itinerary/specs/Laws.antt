@@ -246,6 +246,9 @@ module _ {A : Type 0} (v : View A) (s : List ℕ) (left i : ℕ) where
       let w : at (records s) i ≡ r = at-whole s m i ∙ sym e in
       ap (λ k. viewFrom v (records s) k i) u ∙ from-on v (records s) (left - 1) i n ∙ ap (λ x. v .make x (viewFrom v (records s) (left - 1) (x .parent))) w
 
+  pub two-fewer : viewFrom v (records s) (left - 1 - 1) i ≡ viewFrom v (records s) (left - 2) i
+  two-fewer = let u : left - 1 - 1 ≡ left - 2 = omega arith in ap (λ k. viewFrom v (records s) k i) u
+
 -- as many climbs as a view takes
 pub view-from : {A : Type 0} (v : View A) (s : List ℕ) (i : ℕ) → viewFrom v (records s) (length s / 8 + 1) i ≡ view v (records s) i
 unfolding view count
@@ -281,7 +284,7 @@ module _ {s : List ℕ} (p : Parented s) where
     up : parentOf (records s) i ≡ r .parent
     up = ap (λ x. x .parent) (at-whole s (p .whole) i ∙ sym e)
 
-    parent-inside : r .parent ≤ count s
+    pub parent-inside : r .parent ≤ count s
     parent-inside = rw up at (p .parents i)
 
     pub reach-above : reaches (records s) (r .parent) ≡ reaches (records s) i

@@ -226,6 +226,19 @@ fn climb(it: &[u8], known: &mut [u8], i: u16, left: usize) -> bool
     false
 }
 
+// As `climb`; inner. A record right under one with a mark is marked without a call.
+fn climb_from(it: &[u8], known: &mut [u8], i: u16, left: usize) -> bool
+    requires { ⌜ (Climbable (now it) (now known)) × (Enough (now it) left i) × (1 ≤ i) ⌝ }
+    ensures { λ r. ⌜ (r ≡ reaches (records (now (it .entry))) i) × (Known (now (it .entry)) (now (known .exit))) ⌝ }
+{
+    let r = record_at(it, i);
+    if known[r.parent as usize] == 1 {
+        known[i as usize] = 1;
+        return true;
+    }
+    climb(it, known, i, left)
+}
+
 // Refusal 6 of the n records, with marks to climb by; inner.
 fn first_lost(it: &[u8], known: &mut [u8], n: u16) -> Validated
     requires { ⌜ (Climbable (now it) (now known)) × (n ≡ count (now it)) ⌝ }
@@ -235,7 +248,7 @@ fn first_lost(it: &[u8], known: &mut [u8], n: u16) -> Validated
     let mut i: u16 = 0;
     while i < n {
         let lowest = i + 1;
-        if !climb(it, known, lowest, n as usize) {
+        if !climb_from(it, known, lowest, n as usize) {
             return Validated::Refused(Refusal {
                 number: 6,
                 record: lowest,
@@ -274,7 +287,8 @@ pub fn validate(it: &[u8]) -> Validated
     climbs(it, n)
 }
 
-// The label of the nearest ambient from number i on upwards, with at most left climbs; inner.
+// The label of the nearest ambient from number i on upwards, with at most left climbs; inner. Two records a call: a
+// call costs more than a record.
 pub fn nearest(it: &[u8], i: u16, left: usize) -> u8
     requires { ⌜ length (now it) % 8 ≡ 0 ⌝ }
     ensures { λ r. ⌜ r ≡ viewFrom nesting (records (now (it .entry))) left i ⌝ }
@@ -289,10 +303,20 @@ pub fn nearest(it: &[u8], i: u16, left: usize) -> u8
     if r.kind == 1 {
         return r.label;
     }
-    nearest(it, r.parent, left - 1)
+    if r.parent == 0 {
+        return 0;
+    }
+    if left == 1 {
+        return 0;
+    }
+    let above = record_at(it, r.parent);
+    if above.kind == 1 {
+        return above.label;
+    }
+    nearest(it, above.parent, left - 2)
 }
 
-// Whether number i and all records above it are ambients, with at most left climbs; inner.
+// Whether number i and all records above it are ambients, with at most left climbs; inner. Two records a call.
 pub fn ambients(it: &[u8], i: u16, left: usize) -> bool
     requires { ⌜ length (now it) % 8 ≡ 0 ⌝ }
     ensures { λ r. ⌜ r ≡ viewFrom standing (records (now (it .entry))) left i ⌝ }
@@ -304,8 +328,18 @@ pub fn ambients(it: &[u8], i: u16, left: usize) -> bool
         return false;
     }
     let r = record_at(it, i);
-    if r.kind == 1 {
-        return ambients(it, r.parent, left - 1);
+    if r.kind != 1 {
+        return false;
+    }
+    if r.parent == 0 {
+        return true;
+    }
+    if left == 1 {
+        return false;
+    }
+    let above = record_at(it, r.parent);
+    if above.kind == 1 {
+        return ambients(it, above.parent, left - 2);
     }
     false
 }
