@@ -1,4 +1,5 @@
--- The definitions of document 01, in the order to read them; then what is proved of them.
+-- The definitions of document 01, in the order to read them, with the product's demand 3 (Noninterference); then what is
+-- proved of them.
 pub mod Finite
 pub mod Records
 pub mod Climbing

@@ -62,7 +62,7 @@ unfoldable pub listing : Answer Screen → List Step → List ℕ → List ℕ
 listing (done x) ms answers = verdictWord (x .verdict) ++ field (labelOf (x .verdict)) (lastField (x .ones) (stepLines ms answers (endLine x)))
 listing (refused n r) ms answers = refusedWord ++ field n (lastField r [])
 
--- with one answer for each step of the script; a file that is too long is refused by the length that it has
+-- with one answer for each step of the script; "one that is too long gets the refusal for its length"
 unfoldable pub written : List ℕ → List ℕ → List ℕ → List ℕ
 written s policy script =
     let answers : List ℕ = replicate (length script / 4) 0 in

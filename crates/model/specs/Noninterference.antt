@@ -1,6 +1,7 @@
--- Demand 3: "two itineraries of equal length with one table accepted for both under one policy, sealed, and equal sheets,
--- given the same list of steps of any length, refused ones included, singly or in scripts, keep every suspect ambient
--- under a boundary, keep equal sheets byte for byte, and give equal answers to each step whose actor stood on the sheet."
+-- Demand 3 of the product's statement: "two itineraries of equal length with one table accepted for both under one
+-- policy, sealed, and equal sheets, given the same list of steps of any length, refused ones included, singly or in
+-- scripts, keep every suspect ambient under a boundary, keep equal sheets byte for byte, and give equal answers to each
+-- step whose actor stood on the sheet."
 -- Its proof is in Laws/Secrecy.
 use Prim.Native.Nat.{_<_, suc, ℕ}
 use lib.ListN.{getD, length, replicate, take}

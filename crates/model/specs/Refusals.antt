@@ -7,7 +7,7 @@ pub data Check : Type 0 where
   pass : Check
   refuse : (n r : ℕ) → Check
 
--- the answer of a call: done, with what it returns, or refused: "returned: number, record"
+-- the answer of a call: done, with what it returns, or refused, with "number, record"
 pub data Answer (A : Type 0) : Type 0 where
   done : A → Answer A
   refused : (n r : ℕ) → Answer A

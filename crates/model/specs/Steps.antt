@@ -46,7 +46,7 @@ stands cap-out its q b = eqb b (parentOf its q)
 -- "open: the partner is an ambient with c's parent"
 stands cap-open its q b = eqb (parentOf its b) q
 
--- the partner is an ambient with c's name that stands where it must and that c may act on
+-- the partner is an ambient, with "c's name" (all three), that stands where it must and that c may act on
 unfoldable pub fit : Permit → Capability → List Rec → ℕ → ℕ → Bool
 fit permit k its c b =
     let q = parentOf its c in

@@ -8,7 +8,7 @@ use mathlib.Core.List.{List, [], _∷_}
 use Rattle.model.specs.Finite.{every}
 use Rattle.model.specs.Records.{byte}
 
--- 01's "high" and "boundary" labels: "0 low, 1 high, 2 boundary"
+-- 01's "high" labels: "0 low, 1 high, 2 boundary"
 unfoldable pub isHigh : List ℕ → ℕ → Bool
 isHigh policy k = eqb (byte policy k) 1
 

@@ -55,7 +55,7 @@ nameBy false n = eqb n 0
 unfoldable pub nameRight : Rec → Bool
 nameRight r = nameBy (nested r) (r .name)
 
--- 5: "parent over the record count, or a record of kind 0"
+-- "A parent is 0 or a record whose kind is not 0." 5: "parent over the record count, or a record of kind 0"
 unfoldable pub parentRight : List ℕ → ℕ → Bool
 parentRight s zero = true
 parentRight s (suc p) = leb (suc p) (count s) && unequal (byteOf s (suc p) 0) 0

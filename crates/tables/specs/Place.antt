@@ -5,6 +5,7 @@ use mathlib.Core.Bool.{Bool, _&&_, false, true}
 use mathlib.Core.List.{List}
 use Rattle.model.specs.Tables.{tableSized}
 
+-- n for a part that is there, 0 for the empty part
 unfoldable pub startIf : Bool → ℕ → ℕ
 startIf true n = n
 startIf false n = 0
