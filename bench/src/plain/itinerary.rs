@@ -65,8 +65,13 @@ fn fault(itinerary: &[u8], bytes: &[u8]) -> Option<u16> {
 }
 
 /// Whether climbing from `number` reaches the environment. `known` marks numbers
-/// that do, so that no record is climbed from twice.
+/// that do, so that no record is climbed from twice; a record right under one of
+/// them is settled at once.
 fn climb(itinerary: &[u8], known: &mut [bool; 1025], number: u16) -> bool {
+    if known[usize::from(Record::at(itinerary, number).parent)] {
+        known[usize::from(number)] = true;
+        return true;
+    }
     let mut at = number;
     let mut left = itinerary.len() / RECORD;
     while !known[usize::from(at)] {
