@@ -21,6 +21,130 @@ struct State {
     tally: Tally,
 }
 
+// The same of a buffer that is lent to change.
+fn part_mut<'a>(s: &'a mut [u8], n: usize) -> &'a mut [u8] {
+    if s.len() < n {
+        return s;
+    }
+    &mut s[..n]
+}
+
+// The next byte of a file, 0 at its end.
+fn byte(fd: i32) -> u8 {
+    let mut one = [0u8; 1];
+    io::read_full(fd, &mut one);
+    one[0]
+}
+
+// The next two bytes, the low one first.
+fn word(fd: i32) -> u16 {
+    let low = byte(fd);
+    let high = byte(fd);
+    (low as u16) + 256 * (high as u16)
+}
+
+fn wide(x: u16) -> usize {
+    x as usize
+}
+
+// Reads as many bytes as the next word says into the buffer; answers how many.
+fn fill(fd: i32, buffer: &mut [u8]) -> usize {
+    let n = wide(word(fd));
+    io::read_full(fd, part_mut(buffer, n));
+    n
+}
+
+// Sets a buffer and its shadow; answers their length.
+fn set(fd: i32, buffer: &mut [u8], shadow: &mut [u8]) -> usize {
+    let n = fill(fd, buffer);
+    replaying::copy(replaying::part(buffer, n), shadow);
+    n
+}
+
+// Turns bit k, where there is one.
+fn turn(buffer: &mut [u8], k: usize) {
+    if k / 8 < buffer.len() {
+        buffer[k / 8] = buffer[k / 8] ^ (1u8 << (k % 8));
+    }
+}
+
+// Turns the bits that the file lists, of a buffer and of another.
+fn turn_bits(fd: i32, buffer: &mut [u8], shadow: &mut [u8]) {
+    let mut left = word(fd);
+    while 0 < left {
+        let k = wide(word(fd));
+        turn(buffer, k);
+        turn(shadow, k);
+        left -= 1;
+    }
+}
+
+// Sets bit k, where there is one.
+fn raise(buffer: &mut [u8], k: usize) {
+    if k / 8 < buffer.len() {
+        buffer[k / 8] |= 1u8 << (k % 8);
+    }
+}
+
+// Sets the bits that the file lists.
+fn raise_bits(fd: i32, shadow: &mut [u8]) {
+    let mut left = word(fd);
+    while 0 < left {
+        raise(shadow, wide(word(fd)));
+        left -= 1;
+    }
+}
+
+// Overwrites the part of a shadow that the file gives.
+fn expect_bytes(fd: i32, shadow: &mut [u8]) {
+    let at = wide(word(fd));
+    if at <= shadow.len() {
+        fill(fd, &mut shadow[at..]);
+    }
+}
+
+// The answer that the file gives, with two more values where long.
+fn expected(fd: i32, long: bool) -> Result {
+    let number = byte(fd);
+    let at = word(fd);
+    let v0 = word(fd);
+    let v1 = word(fd);
+    let v2 = word(fd);
+    let v3 = word(fd);
+    let v4 = if long { word(fd) } else { 0 };
+    let v5 = if long { word(fd) } else { 0 };
+    Result {
+        number,
+        at,
+        v0,
+        v1,
+        v2,
+        v3,
+        v4,
+        v5,
+    }
+}
+
+fn number(n: u32) {
+    io::print_decimal(1, n as u64);
+}
+
+// Writes the tally: a line with the name, the calls made and those that differ.
+fn report(name: &[u8], t: Tally) {
+    io::write_all(1, name);
+    io::write_all(1, b": ");
+    number(t.calls);
+    io::write_all(1, b" calls, ");
+    number(t.differ);
+    io::write_all(1, b" differ\n");
+}
+
+// Sets all bytes to zero.
+fn clear(buffer: &mut [u8]) {
+    let zeros = [0u8; 8264];
+    replaying::copy(replaying::part(&zeros, buffer.len()), buffer);
+}
+
 fn of_performed(p: Performed) -> Result {
     match p {
         Performed::Done => replaying::done(0, 0, 0, 0),
@@ -98,7 +222,7 @@ fn of_screened(s: Screened) -> Result {
             let c = x.counts;
             Result {
                 number: 0,
-                record: 0,
+                at: 0,
                 v0: both(verdict_code(v), verdict_label(v)),
                 v1: x.ones,
                 v2: c.ins,
@@ -117,11 +241,11 @@ fn label_of(x: u16) -> u8 {
 // The row as offset and length: its bytes are those at the offset that the file gives.
 fn of_row(table: &[u8], x: u16, want: Result) -> Result {
     let row = tables::row(table, label_of(x));
-    let at = replaying::wide(want.v0);
+    let at = wide(want.v0);
     if table.len() < at {
         return replaying::refused(1, 0);
     }
-    let there = replaying::part(&table[at..], replaying::wide(want.v1));
+    let there = replaying::part(&table[at..], wide(want.v1));
     if replaying::same(row, there) {
         return replaying::done(want.v0, want.v1, 0, 0);
     }
@@ -208,15 +332,15 @@ fn call(
     answers: &mut [u8],
     sheet: &mut [u8],
 ) -> bool {
-    let x = replaying::word(fd);
-    let y = replaying::word(fd);
-    let want = replaying::expected(fd, op == 25);
-    let it = replaying::part_mut(it, s.it);
+    let x = word(fd);
+    let y = word(fd);
+    let want = expected(fd, op == 25);
+    let it = part_mut(it, s.it);
     let policy = replaying::part(policy, s.policy);
-    let table = replaying::part_mut(table, s.table);
+    let table = part_mut(table, s.table);
     let script = replaying::part(script, s.script);
-    let answers = replaying::part_mut(answers, s.answers);
-    let sheet = replaying::part_mut(sheet, s.sheet);
+    let answers = part_mut(answers, s.answers);
+    let sheet = part_mut(sheet, s.sheet);
     if op == 25 {
         return replaying::agree(
             of_screened(screen::screen(it, policy, script, answers)),
@@ -243,32 +367,32 @@ fn shadow_command(
     sheet2: &mut [u8],
 ) {
     if op == 11 {
-        replaying::raise_bits(fd, table2);
+        raise_bits(fd, table2);
         return;
     }
-    let buffer = replaying::byte(fd);
+    let buffer = byte(fd);
     if buffer == 1 {
-        expect(fd, op, replaying::part_mut(it2, s.it));
+        expect(fd, op, part_mut(it2, s.it));
         return;
     }
     if buffer == 3 {
-        expect(fd, op, replaying::part_mut(table2, s.table));
+        expect(fd, op, part_mut(table2, s.table));
         return;
     }
     if buffer == 5 {
-        expect(fd, op, replaying::part_mut(answers2, s.answers));
+        expect(fd, op, part_mut(answers2, s.answers));
         return;
     }
     if buffer == 6 {
-        expect(fd, op, replaying::part_mut(sheet2, s.sheet));
+        expect(fd, op, part_mut(sheet2, s.sheet));
     }
 }
 
 fn expect(fd: i32, op: u8, shadow: &mut [u8]) {
     if op == 9 {
-        replaying::expect_bytes(fd, shadow);
+        expect_bytes(fd, shadow);
     } else {
-        replaying::clear(shadow);
+        clear(shadow);
     }
 }
 
@@ -288,22 +412,22 @@ fn set_command(
 ) -> State {
     let mut next = s;
     if op == 1 {
-        next.it = replaying::set(fd, it, it2);
+        next.it = set(fd, it, it2);
         return next;
     }
     if op == 2 {
-        next.policy = replaying::fill(fd, policy);
+        next.policy = fill(fd, policy);
         return next;
     }
     if op == 4 {
-        next.script = replaying::fill(fd, script);
+        next.script = fill(fd, script);
         return next;
     }
     if op == 5 {
-        next.answers = replaying::set(fd, answers, answers2);
+        next.answers = set(fd, answers, answers2);
         return next;
     }
-    next.sheet = replaying::set(fd, sheet, sheet2);
+    next.sheet = set(fd, sheet, sheet2);
     next
 }
 
@@ -311,20 +435,16 @@ fn set_command(
 fn table_command(fd: i32, op: u8, s: State, table: &mut [u8], table2: &mut [u8]) -> State {
     let mut next = s;
     if op == 3 {
-        next.table = replaying::set(fd, table, table2);
+        next.table = set(fd, table, table2);
         return next;
     }
     if op == 7 {
-        next.table = replaying::wide(replaying::word(fd));
-        replaying::clear(table);
-        replaying::clear(table2);
+        next.table = wide(word(fd));
+        clear(table);
+        clear(table2);
         return next;
     }
-    replaying::turn_bits(
-        fd,
-        replaying::part_mut(table, s.table),
-        replaying::part_mut(table2, s.table),
-    );
+    turn_bits(fd, part_mut(table, s.table), part_mut(table2, s.table));
     next
 }
 
@@ -408,7 +528,7 @@ fn commands(
     let mut left: usize = 1000000;
     while 0 < left {
         left -= 1;
-        let op = replaying::byte(fd);
+        let op = byte(fd);
         if op == 0 {
             return s.tally;
         }
@@ -458,7 +578,7 @@ fn replay(path: &[u8]) {
         &mut sheet2,
     );
     libc::close(fd);
-    replaying::report(path, t);
+    report(path, t);
 }
 
 fn main() {

@@ -1,57 +1,32 @@
-// Reading a file of stored cases: commands over buffers, each with a shadow that it has to equal after a call.
-// Nothing here is a call of the product. (The format is in simulator/README.md.)
-ghost use Prim.Native.Nat.{_≤_};
+// Comparing what a call gave with what a stored case says: the tests that decide a replay.
+// Nothing here is a call of the product. (The format of the cases is in simulator/README.md.)
+ghost use mathlib.Core.Path.{_≡_};
+ghost use lib.ListN.{set, take};
+ghost use Rattle.replaying.specs.Comparing.{agreeing, counting, more, over, sameBytes, values, without};
 
 // The first n bytes of a buffer, or all of it where it has fewer.
-pub fn part<'a>(s: &'a [u8], n: usize) -> &'a [u8] {
+pub fn part<'a>(s: &'a [u8], n: usize) -> &'a [u8]
+    ensures { λ r. ⌜ now r ≡ take n (now (s .entry)) ⌝ }
+{
     if s.len() < n {
         return s;
     }
     &s[..n]
 }
 
-// The same of a buffer that is lent to change.
-pub fn part_mut<'a>(s: &'a mut [u8], n: usize) -> &'a mut [u8] {
-    if s.len() < n {
-        return s;
-    }
-    &mut s[..n]
-}
-
-// The next byte of a file, 0 at its end.
-pub fn byte(fd: i32) -> u8 {
-    let mut one = [0u8; 1];
-    io::read_full(fd, &mut one);
-    one[0]
-}
-
-// The next two bytes, the low one first.
-pub fn word(fd: i32) -> u16 {
-    let low = byte(fd);
-    let high = byte(fd);
-    (low as u16) + 256 * (high as u16)
-}
-
-pub fn wide(x: u16) -> usize {
-    x as usize
-}
-
-// Reads as many bytes as the next word says into the buffer; answers how many.
-pub fn fill(fd: i32, buffer: &mut [u8]) -> usize {
-    let n = wide(word(fd));
-    io::read_full(fd, part_mut(buffer, n));
-    n
-}
-
 // Writes byte i, where there is one.
-fn put(to: &mut [u8], i: usize, x: u8) {
+fn put(to: &mut [u8], i: usize, x: u8)
+    ensures { λ _. ⌜ now (to .exit) ≡ set (now (to .entry)) i x ⌝ }
+{
     if i < to.len() {
         to[i] = x;
     }
 }
 
 // Copies what fits of one buffer to another.
-pub fn copy(from: &[u8], to: &mut [u8]) {
+pub fn copy(from: &[u8], to: &mut [u8])
+    ensures { λ _. ⌜ now (to .exit) ≡ over (now (from .entry)) (now (to .entry)) ⌝ }
+{
     let mut i: usize = 0;
     while i < from.len() {
         put(to, i, from[i]);
@@ -59,86 +34,28 @@ pub fn copy(from: &[u8], to: &mut [u8]) {
     }
 }
 
-// Sets a buffer and its shadow; answers their length.
-pub fn set(fd: i32, buffer: &mut [u8], shadow: &mut [u8]) -> usize {
-    let n = fill(fd, buffer);
-    copy(part(buffer, n), shadow);
-    n
-}
-
-// Sets all bytes to zero.
-pub fn clear(buffer: &mut [u8]) {
-    let mut i: usize = 0;
-    while i < buffer.len() {
-        put(buffer, i, 0);
-        i += 1;
-    }
-}
-
-// Turns bit k, where there is one.
-fn turn(buffer: &mut [u8], k: usize) {
-    if k / 8 < buffer.len() {
-        buffer[k / 8] = buffer[k / 8] ^ (1u8 << (k % 8));
-    }
-}
-
-// Turns the bits that the file lists, of a buffer and of another.
-pub fn turn_bits(fd: i32, buffer: &mut [u8], shadow: &mut [u8]) {
-    let mut left = word(fd);
-    while 0 < left {
-        let k = wide(word(fd));
-        turn(buffer, k);
-        turn(shadow, k);
-        left -= 1;
-    }
-}
-
-// Sets bit k, where there is one.
-fn raise(buffer: &mut [u8], k: usize) {
-    if k / 8 < buffer.len() {
-        buffer[k / 8] |= 1u8 << (k % 8);
-    }
-}
-
-// Sets the bits that the file lists.
-pub fn raise_bits(fd: i32, shadow: &mut [u8]) {
-    let mut left = word(fd);
-    while 0 < left {
-        raise(shadow, wide(word(fd)));
-        left -= 1;
-    }
-}
-
-// Overwrites the part of a shadow that the file gives.
-pub fn expect_bytes(fd: i32, shadow: &mut [u8]) {
-    let at = wide(word(fd));
-    if at <= shadow.len() {
-        fill(fd, &mut shadow[at..]);
-    }
-}
-
 // Whether two buffers have the same bytes.
-pub fn same(a: &[u8], b: &[u8]) -> bool {
-    if a.len() != b.len() {
+pub fn same(a: &[u8], b: &[u8]) -> bool
+    ensures { λ r. ⌜ r ≡ sameBytes (now (a .entry)) (now (b .entry)) ⌝ }
+{
+    let n = a.len();
+    if n != b.len() {
         return false;
     }
-    let n = a.len();
     let mut i: usize = 0;
     while i < n {
-        if i < b.len() {
-            if a[i] != b[i] {
-                return false;
-            }
+        if a[i] != b[i] {
+            return false;
         }
         i += 1;
     }
     true
 }
 
-// An answer: number, record and values.
+// An answer: number, the record at which (0 for none), and values.
 pub struct Result {
     pub number: u8,
-    pub record: u16,
+    pub at: u16,
     pub v0: u16,
     pub v1: u16,
     pub v2: u16,
@@ -148,10 +65,12 @@ pub struct Result {
 }
 
 // A refusal has no values.
-pub fn refused(number: u8, record: u16) -> Result {
+pub fn refused(number: u8, at: u16) -> Result
+    ensures { λ r. ⌜ r ≡ without number at ⌝ }
+{
     Result {
         number,
-        record,
+        at,
         v0: 0,
         v1: 0,
         v2: 0,
@@ -162,10 +81,12 @@ pub fn refused(number: u8, record: u16) -> Result {
 }
 
 // A call that is done returns up to four values.
-pub fn done(v0: u16, v1: u16, v2: u16, v3: u16) -> Result {
+pub fn done(v0: u16, v1: u16, v2: u16, v3: u16) -> Result
+    ensures { λ r. ⌜ r ≡ values v0 v1 v2 v3 ⌝ }
+{
     Result {
         number: 0,
-        record: 0,
+        at: 0,
         v0,
         v1,
         v2,
@@ -175,31 +96,12 @@ pub fn done(v0: u16, v1: u16, v2: u16, v3: u16) -> Result {
     }
 }
 
-// The answer that the file gives, with two more values where long.
-pub fn expected(fd: i32, long: bool) -> Result {
-    let number = byte(fd);
-    let record = word(fd);
-    let v0 = word(fd);
-    let v1 = word(fd);
-    let v2 = word(fd);
-    let v3 = word(fd);
-    let v4 = if long { word(fd) } else { 0 };
-    let v5 = if long { word(fd) } else { 0 };
-    Result {
-        number,
-        record,
-        v0,
-        v1,
-        v2,
-        v3,
-        v4,
-        v5,
-    }
-}
-
-pub fn agree(a: Result, b: Result) -> bool {
+// Whether two answers are the same in every field.
+pub fn agree(a: Result, b: Result) -> bool
+    ensures { λ r. ⌜ r ≡ agreeing a b ⌝ }
+{
     (a.number == b.number)
-        & (a.record == b.record)
+        & (a.at == b.at)
         & (a.v0 == b.v0)
         & (a.v1 == b.v1)
         & (a.v2 == b.v2)
@@ -214,37 +116,29 @@ pub struct Tally {
     pub differ: u32,
 }
 
-// One call more.
-pub fn counted(t: Tally, right: bool) -> Tally {
-    let calls = if t.calls < 1000000 {
-        t.calls + 1
-    } else {
-        t.calls
-    };
+// One more, up to a million.
+fn one_more(n: u32) -> u32
+    ensures { λ r. ⌜ r ≡ more n ⌝ }
+{
+    if n < 1000000 {
+        return n + 1;
+    }
+    n
+}
+
+// One call more, which agreed or differs.
+pub fn counted(t: Tally, right: bool) -> Tally
+    ensures { λ r. ⌜ r ≡ counting t right ⌝ }
+{
+    let calls = one_more(t.calls);
     if right {
         return Tally {
             calls,
             differ: t.differ,
         };
     }
-    let differ = if t.differ < 1000000 {
-        t.differ + 1
-    } else {
-        t.differ
-    };
-    Tally { calls, differ }
-}
-
-fn number(n: u32) {
-    io::print_decimal(1, n as u64);
-}
-
-// Writes the tally: a line with the name, the calls made and those that differ.
-pub fn report(name: &[u8], t: Tally) {
-    io::write_all(1, name);
-    io::write_all(1, b": ");
-    number(t.calls);
-    io::write_all(1, b" calls, ");
-    number(t.differ);
-    io::write_all(1, b" differ\n");
+    Tally {
+        calls,
+        differ: one_more(t.differ),
+    }
 }

@@ -1,52 +1,45 @@
--- What is left of the first buffer falls. Assumes nothing.
-use Prim.Native.Nat.{_≤_, _-_}
-use mathlib.Core.Path.{_≡_}
-use native.Mathlib.Omega.{arith}
+-- `replaying::copy` meets its contract.
+use Prim.Native.Nat.{_-_, _≤_}
 use borrow.Author.Needs.{needs}
-use lib.ListN.{length}
+use lib.ListN.{length, take}
+use mathlib.Core.Path.{_∙_, _≡_, ap, sym}
+use native.Mathlib.Omega.{arith}
+use Rattle.replaying.specs.Comparing.{over}
+use Rattle.replaying.specs.Laws.{over-all, over-length, over-next, over-none}
 use Rattle.replaying.proofs.copy.Statement.{statement}
 use Rattle.replaying.proofs.copy.Tie as tie
-use Rattle.replaying.proofs.copy.Reads as reads
-use Rattle.replaying.proofs.copy.Lts as lts
-use Rattle.replaying.proofs.put.Reads as put-reads
 
 abbrev Inv-loop : tie.InvT-loop
-Inv-loop from to₀ i₀ to i = (i ≤ length from) × (length to ≡ length to₀)
+Inv-loop from to₀ i₀ to i = (i ≤ length from) × (to ≡ over (take i from) to₀)
 
 abbrev μ-loop : tie.MeasureT-loop
 μ-loop from to₀ i₀ to i = length from - i
 
--- src/lib.rt:56:5
 loop-holds : tie.Need-loop-holds Inv-loop μ-loop
-loop-holds c = search needs
+loop-holds c = (omega arith, sym (over-none _))
 
--- src/lib.rt:57:20
 shared-slice-read-put : tie.Need-shared-slice-read-put Inv-loop μ-loop
-shared-slice-read-put c = search needs
+shared-slice-read-put c = omega arith
 
--- src/lib.rt:57:9
 put-requires : tie.Need-put-requires Inv-loop μ-loop
 put-requires c κs = search needs
 
--- src/lib.rt:58:9
 add-i : tie.Need-add-i Inv-loop μ-loop
-add-i c = search needs
+add-i c = omega arith
 
--- src/lib.rt:56:5
 loop-less : tie.Need-loop-less Inv-loop μ-loop
-loop-less c = search needs
+loop-less c = omega arith
 
--- src/lib.rt:56:5
 loop-again : tie.Need-loop-again Inv-loop μ-loop
-loop-again c = search needs
+loop-again c =
+    let l = c .before .before .before .before .before .before .loop in
+    (omega arith, c .before .before .put .ensures ∙ over-next _ _ (l .to) (l .i) (l .inv .1) (omega arith))
 
--- src/lib.rt:54:1
 same-length : tie.Need-same-length Inv-loop μ-loop
-same-length c = search needs
+same-length c = let l = c .before .loop in ap length (l .inv .1) ∙ over-length _ _
 
--- src/lib.rt:54:1
 returns : tie.Need-returns Inv-loop μ-loop
-returns c = search needs
+returns c = let l = c .before .loop in over-all _ _ (l .to) (l .i) (l .inv .1) (omega arith)
 
 pub copy-spec : {M : Type 1} → statement M
 copy-spec =

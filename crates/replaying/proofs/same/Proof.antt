@@ -1,55 +1,45 @@
--- What is left to compare falls. Assumes nothing.
-use Prim.Native.Nat.{_≤_, _-_}
-use mathlib.Core.Path.{_≡_}
+-- `replaying::same` meets its contract.
+use Prim.Native.Nat.{_-_, _≤_}
+use lib.ListN.{drop, length}
+use mathlib.Core.Path.{_∙_, _≡_, refl, sym}
 use native.Mathlib.Omega.{arith}
-use borrow.Author.Needs.{needs}
-use lib.ListN.{length}
+use Rattle.replaying.specs.Comparing.{sameBytes}
+use Rattle.replaying.specs.Laws.{same-differs, same-end, same-long, same-next}
 use Rattle.replaying.proofs.same.Statement.{statement}
 use Rattle.replaying.proofs.same.Tie as tie
-use Rattle.replaying.proofs.same.Reads as reads
-use Rattle.replaying.proofs.same.Lts as lts
 
 abbrev Inv-loop : tie.InvT-loop
-Inv-loop a b n i₀ i = i ≤ n
+Inv-loop a b n i₀ i = (i ≤ n) × (sameBytes a b ≡ sameBytes (drop i a) (drop i b))
 
 abbrev μ-loop : tie.MeasureT-loop
 μ-loop a b n i₀ i = n - i
 
--- src/lib.rt:102:9
 returns : tie.Need-returns Inv-loop μ-loop
-returns c = search needs
+returns c = same-long _ _ (λ e. omega arith)
 
--- src/lib.rt:106:5
 loop-holds : tie.Need-loop-holds Inv-loop μ-loop
-loop-holds c = search needs
+loop-holds c = (omega arith, refl)
 
--- src/lib.rt:108:16
-shared-slice-read-if3 : tie.Need-shared-slice-read-if3 Inv-loop μ-loop
-shared-slice-read-if3 c = search needs
+shared-slice-read-if2 : tie.Need-shared-slice-read-if2 Inv-loop μ-loop
+shared-slice-read-if2 c = omega arith
 
--- src/lib.rt:108:24
-shared-slice-read-if3-2 : tie.Need-shared-slice-read-if3-2 Inv-loop μ-loop
-shared-slice-read-if3-2 c = search needs
+shared-slice-read-if2-2 : tie.Need-shared-slice-read-if2-2 Inv-loop μ-loop
+shared-slice-read-if2-2 c = omega arith
 
--- src/lib.rt:109:17
 returns-2 : tie.Need-returns-2 Inv-loop μ-loop
-returns-2 c = search needs
+returns-2 c = let l = c .before .before .before .before .loop in sym (l .inv .1 ∙ same-differs (c .before .before .before .before .before .before .args .a .now) (c .before .before .before .before .before .before .args .b .now) (l .i) (omega arith) (omega arith) (λ e. c .if2 .taken e))
 
--- src/lib.rt:112:9
 add-i : tie.Need-add-i Inv-loop μ-loop
-add-i c = search needs
+add-i c = omega arith
 
--- src/lib.rt:106:5
 loop-less : tie.Need-loop-less Inv-loop μ-loop
-loop-less c = search needs
+loop-less c = omega arith
 
--- src/lib.rt:106:5
 loop-again : tie.Need-loop-again Inv-loop μ-loop
-loop-again c = search needs
+loop-again c = let l = c .before .before .before .before .loop in (omega arith, l .inv .1 ∙ same-next (c .before .before .before .before .before .before .args .a .now) (c .before .before .before .before .before .before .args .b .now) (l .i) (omega arith) (omega arith) (omega arith))
 
--- src/lib.rt:100:1
 returns-3 : tie.Need-returns-3 Inv-loop μ-loop
-returns-3 c = search needs
+returns-3 c = let l = c .before .loop in sym (l .inv .1 ∙ same-end _ _ (l .i) (omega arith) (omega arith))
 
 pub same-spec : {M : Type 1} → statement M
 same-spec =
@@ -59,8 +49,8 @@ same-spec =
     μ-loop
     returns
     loop-holds
-    shared-slice-read-if3
-    shared-slice-read-if3-2
+    shared-slice-read-if2
+    shared-slice-read-if2-2
     returns-2
     add-i
     loop-less
