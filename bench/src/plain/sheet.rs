@@ -46,11 +46,10 @@ pub fn sheet(itinerary: &[u8], table: &[u8], sheet: &mut [u8]) -> Result<(), Ref
     let suspects = Table::read(table).suspects;
     let mut marks = [Mark::Unknown; 1025];
     marks[0] = Mark::Shown;
-    let parts = itinerary.chunks_exact(RECORD).zip(sheet.chunks_exact_mut(RECORD));
-    for (place, (from, to)) in parts.enumerate() {
-        match mark(itinerary, suspects, &mut marks, place as u16 + 1) {
-            Mark::Hidden => to.fill(0),
-            _ => to.copy_from_slice(from),
+    sheet.copy_from_slice(itinerary);
+    for (place, record) in sheet.chunks_exact_mut(RECORD).enumerate() {
+        if mark(itinerary, suspects, &mut marks, place as u16 + 1) == Mark::Hidden {
+            record.fill(0);
         }
     }
     Ok(())

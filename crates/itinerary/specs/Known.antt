@@ -26,8 +26,9 @@ pub record Parented (s : List ℕ) : Type 0 where
   pub few : length s ≤ 8192
   pub parents : (j : ℕ) → parentOf (records s) j ≤ count s
 
--- every record with a mark reaches the environment
+-- every number with a mark reaches the environment, which has one
 pub record Known (s known : List ℕ) : Type 0 where
+  pub root : getD known 0 0 ≡ 1
   pub reach : (j : ℕ) → getD known j 0 ≡ 1 → reaches (records s) j ≡ true
 
 -- an itinerary past refusals 1 to 5, with a mark for each record

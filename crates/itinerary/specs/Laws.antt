@@ -2,13 +2,14 @@
 use Prim.Native.Nat.{_%_, _*_, _+_, _-_, _/_, _<_, _≤_, suc, zero, ℕ}
 use borrow.Author.Tests.{eq-eqb, leb-true, ne-eqb}
 use lib.Dec.{eqb, leb}
-use lib.ListN.{getD, length, length-replicate, replicate, set}
-use lib.Seq.{getD-set-other}
+use lib.ListN.{getD, length, length-replicate, length-set, replicate, set}
+use lib.Seq.{getD-set-other, getD-set-same}
 use mathlib.Core.Bool.{Bool, _&&_, false, not, true}
-use mathlib.Core.List.{List}
+use mathlib.Core.List.{List, [], _∷_}
 use mathlib.Core.Logic.{_≢_}
 use mathlib.Core.Path.{_∙_, _≡_, ap, ap₂, refl, sym}
 use native.Mathlib.Decide.{decLe, ℕ-discrete}
+use native.Mathlib.Nat.{zero-lt-suc}
 use native.Mathlib.Omega.{arith}
 use Rattle.model.specs.Calls.{validateAnswer}
 use Rattle.model.specs.Climbing.{View, reaches, reaching, view, viewFrom}
@@ -279,21 +280,24 @@ module _ {s : List ℕ} (p : Parented s) where
   unfolding reaches
   found-depth i h = let r = reaches-depth (records s) (length (records s)) i h in (r .0, r .2)
 
-  -- r is record i
-  module _ (i : ℕ) (l : i ≤ count s) (z : i ≢ 0) (r : Rec) (e : r ≡ decode s i) where
-    up : parentOf (records s) i ≡ r .parent
-    up = ap (λ x. x .parent) (at-whole s (p .whole) i ∙ sym e)
+  -- q is the parent of record i
+  module _ (i : ℕ) (l : i ≤ count s) (z : i ≢ 0) (q : ℕ) (e : q ≡ decode s i .parent) where
+    up : parentOf (records s) i ≡ q
+    up = ap (λ x. x .parent) (at-whole s (p .whole) i) ∙ sym e
 
-    pub parent-inside : r .parent ≤ count s
+    pub parent-inside : q ≤ count s
     parent-inside = rw up at (p .parents i)
 
-    pub reach-above : reaches (records s) (r .parent) ≡ reaches (records s) i
+    pub reach-above : reaches (records s) q ≡ reaches (records s) i
     reach-above = bool-iff _ _
-        (λ h. depth-found i l (under-of z up (found-depth (r .parent) h .1)))
-        (λ h. let a = above (found-depth i h .1) z in depth-found (r .parent) parent-inside (rw up at (a .2)))
+        (λ h. depth-found i l (under-of z up (found-depth q h .1)))
+        (λ h. let a = above (found-depth i h .1) z in depth-found q parent-inside (rw up at (a .2)))
 
-    pub enough-above : (left : ℕ) → left ≢ 0 → Enough s left i → Enough s (left - 1) (r .parent)
-    enough-above left n w = record { inside = parent-inside; decides = sym (climb-on reaching s left i (p .whole) z n r e) ∙ w .decides ∙ sym reach-above }
+    pub enough-above : (left : ℕ) → left ≢ 0 → Enough s left i → Enough s (left - 1) q
+    enough-above left n w = record {
+      inside = parent-inside;
+      decides = ap (viewFrom reaching (records s) (left - 1)) e ∙ sym (climb-on reaching s left i (p .whole) z n _ refl) ∙ w .decides ∙ sym reach-above;
+    }
 
 pub reach-root : (s : List ℕ) (i : ℕ) → i ≡ 0 → reaches (records s) i ≡ true
 unfolding reaches
@@ -307,12 +311,30 @@ pub enough-all : (s : List ℕ) (n i : ℕ) → n ≡ count s → i ≤ n → En
 unfolding reaches
 enough-all s n i e l = record { inside = omega arith; decides = ap (λ k. viewFrom reaching (records s) k i) (e ∙ sym (length-records s)) }
 
+has-first : (l : List ℕ) → getD l 0 0 ≡ 1 → 0 < length l
+has-first [] e = absurd (omega (arith, e))
+has-first (x ∷ l) e = zero-lt-suc (length l)
+
 pub known-more : {s known : List ℕ} (i : ℕ) → Known s known → reaches (records s) i ≡ true → Known s (set known i 1)
-known-more {s} {known} i k h = record { reach = λ j e. go j e (ℕ-discrete j i) }
+known-more {s} {known} i k h = record { root = stays (ℕ-discrete 0 i); reach = λ j e. go j e (ℕ-discrete j i) }
   where
+    stays : Dec (0 ≡ i) → getD (set known i 1) 0 0 ≡ 1
+    stays (yes q) = ap (λ k. getD (set known k 1) 0 0) (sym q) ∙ getD-set-same known 0 1 0 (has-first known (k .root))
+    stays (no q) = getD-set-other known i 0 1 0 q ∙ k .root
+
     go : (j : ℕ) → getD (set known i 1) j 0 ≡ 1 → Dec (j ≡ i) → reaches (records s) j ≡ true
     go j e (yes q) = rw q h
     go j e (no q) = k .reach j (sym (getD-set-other known i j 1 0 q) ∙ e)
+
+-- what has no mark is a record
+pub positive : {s known : List ℕ} (i : ℕ) → Known s known → (getD known i 0 ≡ 1 → ⊥) → 1 ≤ i
+positive zero k d = absurd (d (k .root))
+positive (suc i) k d = omega arith
+
+-- a record within the count is whole
+pub whole-record : (s : List ℕ) (i : ℕ) → i ≤ count s → 8 * i ≤ length s
+unfolding count
+whole-record s i l = omega (arith, l)
 
 -- with other marks
 pub climbable : {s known known′ : List ℕ} → Climbable s known → length known′ ≡ length known → Known s known′ → Climbable s known′
@@ -335,13 +357,18 @@ getD-zero zero j = refl
 getD-zero (suc k) zero = refl
 getD-zero (suc k) (suc j) = getD-zero k j
 
-pub unmarked : {s : List ℕ} → Parented s → Climbable s (zeros 1025)
+-- the environment alone has a mark
+pub marked-root : {s : List ℕ} → Parented s → Climbable s (set (zeros 1025) 0 1)
 unfolding count
-unmarked {s} w = record {
+marked-root {s} w = record {
   parented = w;
-  room = rw length-replicate (omega (arith, w .few));
-  marks = record { reach = λ j e. absurd (omega (arith, e, getD-zero 1025 j)) };
+  room = simp length-set (rw length-replicate (omega (arith, w .few)));
+  marks = record { root = refl; reach = λ j e. go j e (ℕ-discrete j 0) };
 }
+  where
+    go : (j : ℕ) → getD (set (zeros 1025) 0 1) j 0 ≡ 1 → Dec (j ≡ 0) → reaches (records s) j ≡ true
+    go j e (yes q) = reach-root s j q
+    go j e (no q) = absurd (omega (arith, e, getD-set-other (zeros 1025) 0 j 1 0 q, getD-zero 1025 j))
 
 pub parented : (s : List ℕ) → sizeRight s ≡ true → eachOf (recordCheck s) 1 (count s) ≡ pass → Parented s
 parented s e h = record { whole = size-whole s e; few = size-le s e; parents = parents-in s (size-whole s e) h }

@@ -202,41 +202,26 @@ fn first_unread(it: &[u8], n: u16) -> Validated
     Validated::Done(n)
 }
 
-// Whether climbing from i reaches the environment; inner. A record with a mark in known does, and a climb that
-// succeeds marks the records it passed, so that no record is climbed from twice.
+// Whether climbing from record i reaches the environment; inner. What has a mark in known does, the environment among
+// them, and a climb that succeeds marks the records it passed, so that no record is climbed from twice. The mark is
+// looked up at the parent: a call costs more than a record.
 fn climb(it: &[u8], known: &mut [u8], i: u16, left: usize) -> bool
-    requires { ⌜ (Climbable (now it) (now known)) × (Enough (now it) left i) ⌝ }
+    requires { ⌜ (Climbable (now it) (now known)) × (Enough (now it) left i) × (1 ≤ i) ⌝ }
     ensures { λ r. ⌜ (r ≡ reaches (records (now (it .entry))) i) × (Known (now (it .entry)) (now (known .exit))) ⌝ }
 {
-    if i == 0 {
-        return true;
-    }
-    let at = i as usize;
-    if known[at] == 1 {
+    let parent = parent_of(it, i);
+    if known[parent as usize] == 1 {
+        known[i as usize] = 1;
         return true;
     }
     if left == 0 {
         return false;
     }
-    let r = record_at(it, i);
-    if climb(it, known, r.parent, left - 1) {
-        known[at] = 1;
-        return true;
-    }
-    false
-}
-
-// As `climb`; inner. A record right under one with a mark is marked without a call.
-fn climb_from(it: &[u8], known: &mut [u8], i: u16, left: usize) -> bool
-    requires { ⌜ (Climbable (now it) (now known)) × (Enough (now it) left i) × (1 ≤ i) ⌝ }
-    ensures { λ r. ⌜ (r ≡ reaches (records (now (it .entry))) i) × (Known (now (it .entry)) (now (known .exit))) ⌝ }
-{
-    let r = record_at(it, i);
-    if known[r.parent as usize] == 1 {
+    if climb(it, known, parent, left - 1) {
         known[i as usize] = 1;
         return true;
     }
-    climb(it, known, i, left)
+    false
 }
 
 // Refusal 6 of the n records, with marks to climb by; inner.
@@ -248,7 +233,7 @@ fn first_lost(it: &[u8], known: &mut [u8], n: u16) -> Validated
     let mut i: u16 = 0;
     while i < n {
         let lowest = i + 1;
-        if !climb_from(it, known, lowest, n as usize) {
+        if !climb(it, known, lowest, n as usize) {
             return Validated::Refused(Refusal {
                 number: 6,
                 record: lowest,
@@ -265,6 +250,7 @@ fn climbs(it: &[u8], n: u16) -> Validated
     ensures { λ r. ⌜ validatedAs r ≡ answer (eachOf (climbCheck (records (now (it .entry)))) 1 n) n ⌝ }
 {
     let mut known = [0u8; 1025];
+    known[0] = 1;
     first_lost(it, &mut known, n)
 }
 

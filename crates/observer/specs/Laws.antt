@@ -1,12 +1,13 @@
 -- Laws of the sheet as the code makes it.
-use Prim.Native.Nat.{_-_, _<_, _≤_, ℕ}
+use Prim.Native.Nat.{_-_, _<_, _≤_, suc, zero, ℕ}
 use borrow.Author.Tests.{eq-eqb, ne-eqb}
-use lib.ListN.{getD, length, length-replicate, set}
-use lib.Seq.{getD-set-other, getD-set-same}
+use lib.Dec.{eqb}
+use lib.ListN.{drop, drop-of-length-le, getD, length, length-replicate, length-set, set, take}
+use lib.Seq.{getD-set-other, getD-set-same, take-all}
 use mathlib.Core.Bool.{Bool, false, true}
-use mathlib.Core.List.{List}
-use mathlib.Core.Logic.{_≢_, _⊎_, inl, inr, ⊎-elim}
-use mathlib.Core.Path.{_∙_, _≡_, ap, refl, sym}
+use mathlib.Core.List.{List, _++_, append-nil}
+use mathlib.Core.Logic.{_≢_}
+use mathlib.Core.Path.{_∙_, _≡_, ap, ap₂, refl, sym}
 use native.Mathlib.Decide.{ℕ-discrete}
 use native.Mathlib.Omega.{arith}
 use Rattle.itinerary.specs.Laws.{ambient-is, content-kept, content-new, done-answer, getD-zero, need-refuse, refuse-answer, then-next, then-refuse, valid-few, valid-whole, zeros}
@@ -14,18 +15,18 @@ use Rattle.model.specs.Calls.{sheetAfter, sheetAnswer, showing}
 use Rattle.model.specs.Climbing.{hidden, isSuspect}
 use Rattle.model.specs.Laws.Bytes.{at-whole, length-records, valid-wf}
 use Rattle.model.specs.Laws.Checks.{need-make}
-use Rattle.model.specs.Laws.Containers.{hidden-suspect, hidden-up}
+use Rattle.model.specs.Laws.Containers.{hidden-root, hidden-suspect, hidden-up}
 use Rattle.model.specs.Laws.Forest.{above, depth-le}
 use Rattle.model.specs.Laws.WellFormed.{WellFormed, parent-in, small}
 use Rattle.model.specs.Numbers.{refusal}
 use Rattle.model.specs.Observer.{onSheet, sheetOf}
-use Rattle.model.specs.Records.{at, count, decode, isAmbient, parentOf, records}
+use Rattle.model.specs.Records.{at, count, decode, gone, isAmbient, parentOf, records}
 use Rattle.model.specs.Refusals.{done, pass, refuse}
 use Rattle.model.specs.Tables.{suspects, tableRight}
 use Rattle.model.specs.Validity.{validity}
 use Rattle.model.specs.declared.Rec.{Rec}
 use Rattle.model.specs.declared.Refusal.{Refusal}
-use Rattle.observer.specs.Marks.{Markable, Marked, Near, shownIf}
+use Rattle.observer.specs.Marks.{Markable, Marked, Near}
 
 -- r is record i of a valid itinerary
 module _ (s : List ℕ) (v : validity s ≡ pass) (i : ℕ) (r : Rec) (e : r ≡ decode s i) where
@@ -66,43 +67,55 @@ near-all s v i l =
     record { inside = l; near = (d .0, omega (arith, depth-le (length (records s)) (parent-in w) (omega (arith, length-records s)) (d .1), length-records s), d .1) }
 
 -- one mark more
-module _ {s table marks : List ℕ} (w : Marked s table marks) (i : ℕ) (l : i < length marks) where
-  module _ (v : ℕ) where
-    here-or : (j x : ℕ) → getD (set marks i v) j 0 ≡ x → Dec (j ≡ i) → ((j ≡ i) × (v ≡ x)) ⊎ (getD marks j 0 ≡ x)
-    here-or j x e (yes q) = inl (q, sym (getD-set-same marks i v 0 l) ∙ ap (λ k. getD (set marks i v) k 0) (sym q) ∙ e)
-    here-or j x e (no q) = inr (sym (getD-set-other marks i j v 0 q) ∙ e)
-
-  pub mark-seen : hidden (records s) (suspects table) i ≡ false → Marked s table (set marks i 1)
-  mark-seen h = record {
-    seen = λ j e. ⊎-elim (λ q. rw (q .0) h) (w .seen j) (here-or 1 j 1 e (ℕ-discrete j i));
-    unseen = λ j e. ⊎-elim (λ q. absurd (omega (arith, q .1))) (w .unseen j) (here-or 1 j 2 e (ℕ-discrete j i));
+module _ {s table marks : List ℕ} (w : Marked s table marks) (i v : ℕ) (l : i < length marks) (z : 1 ≤ i) where
+  pub mark-more : hidden (records s) (suspects table) i ≡ eqb v 2 → Marked s table (set marks i v)
+  mark-more h = record {
+    root = getD-set-other marks i 0 v 0 (λ q. omega (arith, q)) ∙ w .root;
+    told = λ j n. go j n (ℕ-discrete j i);
   }
-
-  pub mark-unseen : hidden (records s) (suspects table) i ≡ true → Marked s table (set marks i 2)
-  mark-unseen h = record {
-    seen = λ j e. ⊎-elim (λ q. absurd (omega (arith, q .1))) (w .seen j) (here-or 2 j 1 e (ℕ-discrete j i));
-    unseen = λ j e. ⊎-elim (λ q. rw (q .0) h) (w .unseen j) (here-or 2 j 2 e (ℕ-discrete j i));
-  }
+    where
+      go : (j : ℕ) → (getD (set marks i v) j 0 ≡ 0 → ⊥) → Dec (j ≡ i) → hidden (records s) (suspects table) j ≡ eqb (getD (set marks i v) j 0) 2
+      go j n (yes q) = rw q (h ∙ ap (λ x. eqb x 2) (sym (getD-set-same marks i v 0 l)))
+      go j n (no q) = let e = getD-set-other marks i j v 0 q in w .told j (λ o. n (e ∙ o)) ∙ ap (λ x. eqb x 2) (sym e)
 
 -- with other marks
 pub markable : {s table marks marks′ : List ℕ} → Markable s table marks → length marks′ ≡ length marks → Marked s table marks′ → Markable s table marks′
 markable w e m = record { valid = w .valid; table-long = w .table-long; room = rw e (w .room); marked = m }
 
--- with no marks
-pub unmarked : {s table : List ℕ} → validity s ≡ pass → length table ≡ 1544 → Markable s table (zeros 1025)
+-- the environment alone has a mark
+pub marked-root : {s table : List ℕ} → validity s ≡ pass → length table ≡ 1544 → Markable s table (set (zeros 1025) 0 1)
 unfolding count
-unmarked {s} v t = record {
+marked-root {s} {table} v t = record {
   valid = v;
   table-long = t;
-  room = rw length-replicate (omega (arith, valid-few s v));
-  marked = record { seen = λ j e. absurd (omega (arith, e, getD-zero 1025 j)); unseen = λ j e. absurd (omega (arith, e, getD-zero 1025 j)) };
+  room = simp length-set (rw length-replicate (omega (arith, valid-few s v)));
+  marked = record { root = refl; told = λ j n. go j n (ℕ-discrete j 0) };
 }
+  where
+    go : (j : ℕ) → (getD (set (zeros 1025) 0 1) j 0 ≡ 0 → ⊥) → Dec (j ≡ 0) → hidden (records s) (suspects table) j ≡ eqb (getD (set (zeros 1025) 0 1) j 0) 2
+    go j n (yes q) = rw q (hidden-root (valid-wf s v) _)
+    go j n (no q) = absurd (n (getD-set-other (zeros 1025) 0 j 1 0 q ∙ getD-zero 1025 j))
+
+-- what has no mark is a record
+pub positive : {s table marks : List ℕ} (i : ℕ) → Marked s table marks → getD marks i 0 ≡ 0 → 1 ≤ i
+positive zero w e = absurd (omega (arith, w .root, e))
+positive (suc i) w e = omega arith
+
+-- all of s, copied to a buffer of its length
+pub copied : (s d t : List ℕ) → length d ≡ length s → t ≡ take (length s) s ++ drop (length s) d → t ≡ s
+copied s d t e q =
+    let l : length d ≤ length s = omega (arith, e) in
+    q ∙ ap₂ (λ (x y : List ℕ). x ++ y) (take-all (length s) s (omega arith)) (drop-of-length-le d l) ∙ append-nil s
 
 -- a record as the sheet shows it
-pub shown-is : (its : List Rec) (S : ℕ → Bool) (i : ℕ) (r : Rec) (b : Bool) → b ≡ hidden its S i → shownIf b r ≡ onSheet its S i r
-unfolding onSheet shownIf
-shown-is its S i r true e = rw (sym e, onSheet)
-shown-is its S i r false e = rw (sym e, onSheet)
+module _ (its : List Rec) (S : ℕ → Bool) (i : ℕ) (r : Rec) {b : Bool} (e : b ≡ hidden its S i) where
+  pub sheet-gone : b ≡ true → gone ≡ onSheet its S i r
+  unfolding onSheet
+  sheet-gone t = rw (sym e ∙ t, onSheet)
+
+  pub sheet-stands : b ≡ false → r ≡ onSheet its S i r
+  unfolding onSheet
+  sheet-stands t = rw (sym e ∙ t, onSheet)
 
 -- an ambient is suspect as its label is
 pub suspect-is : (S : ℕ → Bool) (r : Rec) → r .kind ≡ 1 → S (r .label) ≡ isSuspect S r

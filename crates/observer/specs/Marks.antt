@@ -1,21 +1,20 @@
 -- What the inner contracts cite: climbs that stop at records already decided.
 use Prim.Native.Nat.{_<_, _≤_, ℕ}
+use lib.Dec.{eqb}
 use lib.ListN.{getD, length}
-use mathlib.Core.Bool.{Bool, false, true}
 use mathlib.Core.List.{List}
 use mathlib.Core.Path.{_≡_}
 use Rattle.model.specs.Climbing.{hidden}
 use Rattle.model.specs.Laws.Forest.{Depth}
-use Rattle.model.specs.Records.{count, gone, parentOf, records}
+use Rattle.model.specs.Records.{count, parentOf, records}
 use Rattle.model.specs.Refusals.{pass}
 use Rattle.model.specs.Tables.{suspects}
 use Rattle.model.specs.Validity.{validity}
-use Rattle.model.specs.declared.Rec.{Rec}
 
--- mark 1: a record that is not hidden; mark 2: one that is
+-- mark 1: a number that is not hidden, the environment's among them; mark 2: one that is
 pub record Marked (s table marks : List ℕ) : Type 0 where
-  pub seen : (j : ℕ) → getD marks j 0 ≡ 1 → hidden (records s) (suspects table) j ≡ false
-  pub unseen : (j : ℕ) → getD marks j 0 ≡ 2 → hidden (records s) (suspects table) j ≡ true
+  pub root : getD marks 0 0 ≡ 1
+  pub told : (j : ℕ) → (getD marks j 0 ≡ 0 → ⊥) → hidden (records s) (suspects table) j ≡ eqb (getD marks j 0) 2
 
 -- a valid itinerary and a whole table, with a mark for each record
 pub record Markable (s table marks : List ℕ) : Type 0 where
@@ -28,8 +27,3 @@ pub record Markable (s table marks : List ℕ) : Type 0 where
 pub record Near (s : List ℕ) (left i : ℕ) : Type 0 where
   pub inside : i ≤ count s
   pub near : (d : ℕ) × (d ≤ left) × Depth (parentOf (records s)) i d
-
--- a record as the sheet shows it
-unfoldable pub shownIf : Bool → Rec → Rec
-shownIf true r = gone
-shownIf false r = r

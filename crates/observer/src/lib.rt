@@ -4,7 +4,7 @@ use model::Rec;
 use model::Refusal;
 use model::Validated;
 ghost use mathlib.Core.Path.{_≡_};
-ghost use Prim.Native.Nat.{_<_};
+ghost use Prim.Native.Nat.{_<_, _≤_};
 ghost use lib.ListN.{length};
 ghost use Rattle.model.specs.Calls.{sheetAfter, sheetAnswer};
 ghost use Rattle.model.specs.Climbing.{hidden, isSuspect};
@@ -14,7 +14,7 @@ ghost use Rattle.model.specs.Records.{records};
 ghost use Rattle.model.specs.Refusals.{pass};
 ghost use Rattle.model.specs.Tables.{suspects};
 ghost use Rattle.model.specs.Validity.{validity};
-ghost use Rattle.observer.specs.Marks.{Markable, Marked, Near, shownIf};
+ghost use Rattle.observer.specs.Marks.{Markable, Marked, Near};
 
 // Whether a record is an ambient whose label is suspect; inner.
 fn suspect(table: &[u8], r: Rec) -> bool
@@ -27,67 +27,52 @@ fn suspect(table: &[u8], r: Rec) -> bool
     false
 }
 
-// Whether record i is hidden; inner. The climb stops at a record with a mark, 1 for shown and 2 for hidden, and marks
-// the records it passed, so that no record is climbed from twice.
+// Whether record i is hidden; inner. A mark is 1 for shown, the environment's too, and 2 for hidden. It is looked up at
+// the parent, and the climb marks the records it passed, so that no record is climbed from twice.
 fn hidden(it: &[u8], table: &[u8], marks: &mut [u8], i: u16, left: usize) -> bool
-    requires { ⌜ (Markable (now it) (now table) (now marks)) × (Near (now it) left i) ⌝ }
+    requires { ⌜ (Markable (now it) (now table) (now marks)) × (Near (now it) left i) × (1 ≤ i) ⌝ }
     ensures { λ b. ⌜ (b ≡ hidden (records (now (it .entry))) (suspects (now (table .entry))) i)
         × (Marked (now (it .entry)) (now (table .entry)) (now (marks .exit))) ⌝ }
 {
-    if i == 0 {
-        return false;
-    }
-    let at = i as usize;
-    let mark = marks[at];
-    if mark == 1 {
-        return false;
-    }
-    if mark == 2 {
+    let r = itinerary::record_at(it, i);
+    if suspect(table, r) {
+        marks[i as usize] = 2;
         return true;
+    }
+    let above = marks[r.parent as usize];
+    if above != 0 {
+        marks[i as usize] = above;
+        return above == 2;
     }
     if left == 0 {
         return false;
     }
-    let r = itinerary::record_at(it, i);
-    if suspect(table, r) {
-        marks[at] = 2;
-        return true;
-    }
     if hidden(it, table, marks, r.parent, left - 1) {
-        marks[at] = 2;
+        marks[i as usize] = 2;
         return true;
     }
-    marks[at] = 1;
+    marks[i as usize] = 1;
     false
 }
 
-// A record as the sheet shows it.
-fn shown(hidden: bool, r: Rec) -> Rec
-    ensures { λ x. ⌜ x ≡ shownIf hidden r ⌝ }
-{
-    if hidden {
-        return Rec {
-            kind: 0,
-            label: 0,
-            name: 0,
-            parent: 0,
-        };
-    }
-    r
-}
-
-// Writes the sheet, record by record, with marks to climb by; inner.
-fn write(it: &[u8], table: &[u8], marks: &mut [u8], sheet: &mut [u8])
-    requires { ⌜ (Markable (now it) (now table) (now marks)) × (length (now sheet) ≡ length (now it)) ⌝ }
+// Takes the hidden records off a sheet that is still the itinerary, with marks to climb by; inner.
+fn hide(it: &[u8], table: &[u8], marks: &mut [u8], sheet: &mut [u8])
+    requires { ⌜ (Markable (now it) (now table) (now marks)) × (now sheet ≡ now it) ⌝ }
     ensures { λ _. ⌜ (now (sheet .exit) ≡ sheetOf (now (it .entry)) (now (table .entry)))
         × (Marked (now (it .entry)) (now (table .entry)) (now (marks .exit))) ⌝ }
 {
+    let gone = Rec {
+        kind: 0,
+        label: 0,
+        name: 0,
+        parent: 0,
+    };
     let n = (it.len() / 8) as u16;
     let mut i: u16 = 0;
     while i < n {
-        let h = hidden(it, table, marks, i + 1, n as usize);
-        let r = itinerary::record_at(it, i + 1);
-        itinerary::put_record(sheet, i + 1, shown(h, r));
+        if hidden(it, table, marks, i + 1, n as usize) {
+            itinerary::put_record(sheet, i + 1, gone);
+        }
         i += 1;
     }
 }
@@ -98,7 +83,9 @@ fn fill(it: &[u8], table: &[u8], sheet: &mut [u8])
     ensures { λ _. ⌜ now (sheet .exit) ≡ sheetOf (now (it .entry)) (now (table .entry)) ⌝ }
 {
     let mut marks = [0u8; 1025];
-    write(it, table, &mut marks, sheet);
+    marks[0] = 1;
+    bytes::copy(it, sheet);
+    hide(it, table, &mut marks, sheet);
 }
 
 // The sheet after refusals 1 to 6, 8 and 14.

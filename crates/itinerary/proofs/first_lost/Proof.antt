@@ -26,25 +26,25 @@ loop-holds c = (c .before .before .pre .0, refl, search needs, rest-start _ _)
 add-lowest : tie.Need-add-lowest Inv-loop μ-loop
 add-lowest c = search needs
 
-climb-from-requires : tie.Need-climb-from-requires Inv-loop μ-loop
-climb-from-requires c κs = (c .before .before .loop .inv .0, enough-all _ _ _ (c .before .before .before .before .before .pre .1) (omega arith), omega arith)
+climb-requires : tie.Need-climb-requires Inv-loop μ-loop
+climb-requires c κs = (c .before .before .loop .inv .0, enough-all _ _ _ (c .before .before .before .before .before .pre .1) (omega arith), omega arith)
 
 same-length : tie.Need-same-length Inv-loop μ-loop
-same-length c = c .before .before .before .climb-from .kept .1 .0 ∙ c .before .before .before .before .before .before .loop .inv .1
+same-length c = c .before .before .before .climb .kept .1 .0 ∙ c .before .before .before .before .before .before .loop .inv .1
 
 returns : tie.Need-returns Inv-loop μ-loop
 unfolding validatedAs
-returns c = (refuse-answer _ _ (c .before .before .before .before .before .before .loop .inv .3 ∙ rest-refuse _ _ _ _ _ (c .before .before .before .before .before .loop-test .taken) (climb-refuse _ _ (c .before .before .before .climb-from .ensures .0) (not-true _ (c .if1 .taken)))), c .before .before .before .climb-from .ensures .1)
+returns c = (refuse-answer _ _ (c .before .before .before .before .before .before .loop .inv .3 ∙ rest-refuse _ _ _ _ _ (c .before .before .before .before .before .loop-test .taken) (climb-refuse _ _ (c .before .before .before .climb .ensures .0) (not-true _ (c .if1 .taken)))), c .before .before .before .climb .ensures .1)
 
 loop-less : tie.Need-loop-less Inv-loop μ-loop
 loop-less c = search needs
 
 loop-again : tie.Need-loop-again Inv-loop μ-loop
 loop-again c = (
-  climbable (c .before .before .before .before .before .before .loop .inv .0) (c .before .before .before .climb-from .kept .1 .0) (c .before .before .before .climb-from .ensures .1),
-  c .before .before .before .climb-from .kept .1 .0 ∙ c .before .before .before .before .before .before .loop .inv .1,
+  climbable (c .before .before .before .before .before .before .loop .inv .0) (c .before .before .before .climb .kept .1 .0) (c .before .before .before .climb .ensures .1),
+  c .before .before .before .climb .kept .1 .0 ∙ c .before .before .before .before .before .before .loop .inv .1,
   omega arith,
-  c .before .before .before .before .before .before .loop .inv .3 ∙ rest-next _ _ _ (c .before .before .before .before .before .loop-test .taken) (climb-pass _ _ (c .before .before .before .climb-from .ensures .0) (not-false _ (c .if1 .left))),
+  c .before .before .before .before .before .before .loop .inv .3 ∙ rest-next _ _ _ (c .before .before .before .before .before .loop-test .taken) (climb-pass _ _ (c .before .before .before .climb .ensures .0) (not-false _ (c .if1 .left))),
 )
 
 same-length-2 : tie.Need-same-length-2 Inv-loop μ-loop
@@ -62,7 +62,7 @@ first-lost-spec =
     μ-loop
     loop-holds
     add-lowest
-    climb-from-requires
+    climb-requires
     same-length
     returns
     loop-less

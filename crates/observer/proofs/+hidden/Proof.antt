@@ -6,16 +6,14 @@ use borrow.Fn.PlainCycle.{Measures, and, falls, is}
 use lib.ListN.{length-set}
 use mathlib.Core.Path.{_∙_, sym}
 use native.Mathlib.Omega.{arith}
-use Rattle.itinerary.proofs.record_at.Reads as record-at-reads
-use Rattle.model.specs.Laws.Bytes.{valid-wf}
-use Rattle.model.specs.Laws.Containers.{hidden-root}
-use Rattle.observer.specs.Laws.{hidden-above, hidden-here, label-small, mark-seen, mark-unseen, near-above, near-left}
-use Rattle.observer.proofs.+hidden.{statement}
-use Rattle.observer.proofs.+hidden.Lts-hidden as hidden-lts
-use Rattle.observer.proofs.+hidden.Tie.{close}
-use Rattle.observer.proofs.hidden.Kinds as hidden-kinds
+use Rattle.observer.specs.Laws.{hidden-above, hidden-here, label-small, mark-more, near-above, near-left, positive}
 use Rattle.observer.proofs.hidden.Reads as hidden
+use Rattle.observer.proofs.hidden.Kinds as hidden-kinds
+use Rattle.observer.proofs.+hidden.Lts-hidden as hidden-lts
+use Rattle.itinerary.proofs.record_at.Reads as record-at-reads
 use Rattle.observer.proofs.suspect.Reads as suspect-reads
+use Rattle.observer.proofs.+hidden.{statement}
+use Rattle.observer.proofs.+hidden.Tie.{close}
 
 abbrev μ-hidden : Measures 3 hidden-kinds.ps ℕ
 μ-hidden κs a = a .1 .1 .1 .1 .0
@@ -25,56 +23,6 @@ hidden-at t = and 3 hidden-kinds.ps (is 3 hidden-kinds.ps μ-hidden t) hidden.Pr
 
 abbrev hidden-below : ℕ → In 3 hidden-kinds.ps
 hidden-below t = and 3 hidden-kinds.ps (falls 3 hidden-kinds.ps _<_ μ-hidden t) hidden.Pre
-
-hidden-returns : (t : ℕ) → hidden-lts.Need-returns (
-  record-at-reads.Asked,
-  record-at-reads.Learnt,
-  suspect-reads.Asked,
-  suspect-reads.Learnt,
-  hidden-below t,
-  hidden.Post,
-) (hidden-at t) hidden.Post
-hidden-returns t c = (rw (c .if1 .taken) (sym (hidden-root (valid-wf _ (c .before .before .before .before .pre .1 .0 .valid)) _)), c .before .before .before .before .pre .1 .0 .marked)
-
-hidden-slice-read-mark : (t : ℕ) → hidden-lts.Need-slice-read-mark (
-  record-at-reads.Asked,
-  record-at-reads.Learnt,
-  suspect-reads.Asked,
-  suspect-reads.Learnt,
-  hidden-below t,
-  hidden.Post,
-) (hidden-at t) hidden.Post
-hidden-slice-read-mark t c = omega (arith, c .before .before .before .before .before .pre .1 .0 .room, c .before .before .before .before .before .pre .1 .1 .inside)
-
-hidden-returns-2 : (t : ℕ) → hidden-lts.Need-returns-2 (
-  record-at-reads.Asked,
-  record-at-reads.Learnt,
-  suspect-reads.Asked,
-  suspect-reads.Learnt,
-  hidden-below t,
-  hidden.Post,
-) (hidden-at t) hidden.Post
-hidden-returns-2 t c = (sym (c .before .before .before .before .before .before .pre .1 .0 .marked .seen _ (c .if2 .taken)), c .before .before .before .before .before .before .pre .1 .0 .marked)
-
-hidden-returns-3 : (t : ℕ) → hidden-lts.Need-returns-3 (
-  record-at-reads.Asked,
-  record-at-reads.Learnt,
-  suspect-reads.Asked,
-  suspect-reads.Learnt,
-  hidden-below t,
-  hidden.Post,
-) (hidden-at t) hidden.Post
-hidden-returns-3 t c = (sym (c .before .before .before .before .before .before .before .pre .1 .0 .marked .unseen _ (c .if3 .taken)), c .before .before .before .before .before .before .before .pre .1 .0 .marked)
-
-hidden-returns-4 : (t : ℕ) → hidden-lts.Need-returns-4 (
-  record-at-reads.Asked,
-  record-at-reads.Learnt,
-  suspect-reads.Asked,
-  suspect-reads.Learnt,
-  hidden-below t,
-  hidden.Post,
-) (hidden-at t) hidden.Post
-hidden-returns-4 t c = absurd (near-left (c .before .before .before .before .before .before .before .before .pre .1 .1) (c .before .before .before .before .if1 .left) (c .if4 .taken))
 
 hidden-record-at-requires : (t : ℕ) → hidden-lts.Need-record-at-requires (
   record-at-reads.Asked,
@@ -94,7 +42,7 @@ hidden-suspect-requires : (t : ℕ) → hidden-lts.Need-suspect-requires (
   hidden-below t,
   hidden.Post,
 ) (hidden-at t) hidden.Post
-hidden-suspect-requires t c κs = (c .before .before .before .before .before .before .before .before .before .pre .1 .0 .table-long, label-small _ (c .before .before .before .before .before .before .before .before .before .pre .1 .0 .valid) _ _ (c .record-at .ensures))
+hidden-suspect-requires t c κs = (c .before .before .before .before .pre .1 .0 .table-long, label-small _ (c .before .before .before .before .pre .1 .0 .valid) _ _ (c .record-at .ensures))
 
 hidden-slice-write-marks : (t : ℕ) → hidden-lts.Need-slice-write-marks (
   record-at-reads.Asked,
@@ -104,7 +52,7 @@ hidden-slice-write-marks : (t : ℕ) → hidden-lts.Need-slice-write-marks (
   hidden-below t,
   hidden.Post,
 ) (hidden-at t) hidden.Post
-hidden-slice-write-marks t c = omega (arith, c .before .before .before .before .before .before .before .before .before .before .before .pre .1 .0 .room, c .before .before .before .before .before .before .before .before .before .before .before .pre .1 .1 .inside)
+hidden-slice-write-marks t c = omega (arith, c .before .before .before .before .before .before .pre .1 .0 .room, c .before .before .before .before .before .before .pre .1 .1 .inside)
 
 hidden-same-length : (t : ℕ) → hidden-lts.Need-same-length (
   record-at-reads.Asked,
@@ -116,7 +64,7 @@ hidden-same-length : (t : ℕ) → hidden-lts.Need-same-length (
 ) (hidden-at t) hidden.Post
 hidden-same-length t c = simp length-set
 
-hidden-returns-5 : (t : ℕ) → hidden-lts.Need-returns-5 (
+hidden-returns : (t : ℕ) → hidden-lts.Need-returns (
   record-at-reads.Asked,
   record-at-reads.Learnt,
   suspect-reads.Asked,
@@ -124,8 +72,71 @@ hidden-returns-5 : (t : ℕ) → hidden-lts.Need-returns-5 (
   hidden-below t,
   hidden.Post,
 ) (hidden-at t) hidden.Post
-hidden-returns-5 t c = let h = hidden-here _ (c .before .before .before .before .before .before .before .before .before .before .before .pre .1 .0 .valid) _ _ (c .before .before .record-at .ensures) _ (sym (c .before .suspect .ensures) ∙ c .if5 .taken) in
-    (sym h, mark-unseen (c .before .before .before .before .before .before .before .before .before .before .before .pre .1 .0 .marked) _ (omega (arith, c .before .before .before .before .before .before .before .before .before .before .before .pre .1 .0 .room, c .before .before .before .before .before .before .before .before .before .before .before .pre .1 .1 .inside)) h)
+hidden-returns t c =
+    let h = hidden-here _ (c .before .before .before .before .before .before .pre .1 .0 .valid) _ _ (c .before .before .record-at .ensures) _ (sym (c .before .suspect .ensures) ∙ c .if1 .taken) in
+    (sym h, mark-more (c .before .before .before .before .before .before .pre .1 .0 .marked) _ 2 (omega (arith, c .before .before .before .before .before .before .pre .1 .0 .room, c .before .before .before .before .before .before .pre .1 .1 .inside)) (c .before .before .before .before .before .before .pre .1 .2) h)
+
+hidden-cast-above : (t : ℕ) → hidden-lts.Need-cast-above (
+  record-at-reads.Asked,
+  record-at-reads.Learnt,
+  suspect-reads.Asked,
+  suspect-reads.Learnt,
+  hidden-below t,
+  hidden.Post,
+) (hidden-at t) hidden.Post
+hidden-cast-above t c = search needs
+
+hidden-slice-read-above : (t : ℕ) → hidden-lts.Need-slice-read-above (
+  record-at-reads.Asked,
+  record-at-reads.Learnt,
+  suspect-reads.Asked,
+  suspect-reads.Learnt,
+  hidden-below t,
+  hidden.Post,
+) (hidden-at t) hidden.Post
+hidden-slice-read-above t c = let w = near-above _ (c .before .before .before .before .before .before .before .before .pre .1 .0 .valid) _ _ (c .before .before .before .before .record-at .ensures) (λ q. omega (arith, q, c .before .before .before .before .before .before .before .before .pre .1 .2)) (c .before .before .before .before .before .before .before .before .pre .1 .1) in omega (arith, c .before .before .before .before .before .before .before .before .pre .1 .0 .room, w .inside)
+
+hidden-slice-write-marks-2 : (t : ℕ) → hidden-lts.Need-slice-write-marks-2 (
+  record-at-reads.Asked,
+  record-at-reads.Learnt,
+  suspect-reads.Asked,
+  suspect-reads.Learnt,
+  hidden-below t,
+  hidden.Post,
+) (hidden-at t) hidden.Post
+hidden-slice-write-marks-2 t c = omega (arith, c .before .before .before .before .before .before .before .before .before .pre .1 .0 .room, c .before .before .before .before .before .before .before .before .before .pre .1 .1 .inside)
+
+hidden-same-length-2 : (t : ℕ) → hidden-lts.Need-same-length-2 (
+  record-at-reads.Asked,
+  record-at-reads.Learnt,
+  suspect-reads.Asked,
+  suspect-reads.Learnt,
+  hidden-below t,
+  hidden.Post,
+) (hidden-at t) hidden.Post
+hidden-same-length-2 t c = simp length-set
+
+hidden-returns-2 : (t : ℕ) → hidden-lts.Need-returns-2 (
+  record-at-reads.Asked,
+  record-at-reads.Learnt,
+  suspect-reads.Asked,
+  suspect-reads.Learnt,
+  hidden-below t,
+  hidden.Post,
+) (hidden-at t) hidden.Post
+hidden-returns-2 t c =
+    let h = sym (hidden-above _ (c .before .before .before .before .before .before .before .before .before .pre .1 .0 .valid) _ _ (c .before .before .before .before .before .record-at .ensures) _ (λ q. omega (arith, q, c .before .before .before .before .before .before .before .before .before .pre .1 .2)) (sym (c .before .before .before .before .suspect .ensures) ∙ c .before .before .before .if1 .left)) ∙ c .before .before .before .before .before .before .before .before .before .pre .1 .0 .marked .told _ (c .if2 .taken) in
+    (sym h, mark-more (c .before .before .before .before .before .before .before .before .before .pre .1 .0 .marked) _ _ (omega (arith, c .before .before .before .before .before .before .before .before .before .pre .1 .0 .room, c .before .before .before .before .before .before .before .before .before .pre .1 .1 .inside)) (c .before .before .before .before .before .before .before .before .before .pre .1 .2) h)
+
+hidden-returns-3 : (t : ℕ) → hidden-lts.Need-returns-3 (
+  record-at-reads.Asked,
+  record-at-reads.Learnt,
+  suspect-reads.Asked,
+  suspect-reads.Learnt,
+  hidden-below t,
+  hidden.Post,
+) (hidden-at t) hidden.Post
+hidden-returns-3 t c = absurd (near-left (c .before .before .before .before .before .before .before .before .before .before .pre .1 .1) (λ q. omega (arith, q, c .before .before .before .before .before .before .before .before .before .before .pre .1 .2)) (c .if3 .taken))
 
 hidden-sub-hidden : (t : ℕ) → hidden-lts.Need-sub-hidden (
   record-at-reads.Asked,
@@ -145,39 +156,9 @@ hidden-hidden-requires : (t : ℕ) → hidden-lts.Need-hidden-requires (
   hidden-below t,
   hidden.Post,
 ) (hidden-at t) hidden.Post
-hidden-hidden-requires t c κs = (omega (arith, c .before .before .before .before .before .before .before .before .before .before .before .before .pre .0), (c .before .before .before .before .before .before .before .before .before .before .before .before .pre .1 .0, near-above _ (c .before .before .before .before .before .before .before .before .before .before .before .before .pre .1 .0 .valid) _ _ (c .before .before .before .record-at .ensures) (c .before .before .before .before .before .before .before .before .if1 .left) (c .before .before .before .before .before .before .before .before .before .before .before .before .pre .1 .1)))
-
-hidden-slice-write-marks-2 : (t : ℕ) → hidden-lts.Need-slice-write-marks-2 (
-  record-at-reads.Asked,
-  record-at-reads.Learnt,
-  suspect-reads.Asked,
-  suspect-reads.Learnt,
-  hidden-below t,
-  hidden.Post,
-) (hidden-at t) hidden.Post
-hidden-slice-write-marks-2 t c = omega (arith, c .before .before .before .before .before .before .before .before .before .before .before .before .before .before .before .before .pre .1 .0 .room, c .before .before .before .before .before .before .before .before .before .before .before .before .before .before .before .before .pre .1 .1 .inside, c .before .before .before .hidden .kept .1 .1 .0)
-
-hidden-same-length-2 : (t : ℕ) → hidden-lts.Need-same-length-2 (
-  record-at-reads.Asked,
-  record-at-reads.Learnt,
-  suspect-reads.Asked,
-  suspect-reads.Learnt,
-  hidden-below t,
-  hidden.Post,
-) (hidden-at t) hidden.Post
-hidden-same-length-2 t c = simp length-set (c .before .before .before .hidden .kept .1 .1 .0)
-
-hidden-returns-6 : (t : ℕ) → hidden-lts.Need-returns-6 (
-  record-at-reads.Asked,
-  record-at-reads.Learnt,
-  suspect-reads.Asked,
-  suspect-reads.Learnt,
-  hidden-below t,
-  hidden.Post,
-) (hidden-at t) hidden.Post
-hidden-returns-6 t c = let f = c .before .before .before .hidden .ensures in
-    let h = sym (sym (c .if6 .taken) ∙ f .0 ∙ hidden-above _ (c .before .before .before .before .before .before .before .before .before .before .before .before .before .before .before .before .pre .1 .0 .valid) _ _ (c .before .before .before .before .before .before .before .record-at .ensures) _ (c .before .before .before .before .before .before .before .before .before .before .before .before .if1 .left) (sym (c .before .before .before .before .before .before .suspect .ensures) ∙ c .before .before .before .before .before .if5 .left)) in
-    (sym h, mark-unseen (f .1) _ (omega (arith, c .before .before .before .before .before .before .before .before .before .before .before .before .before .before .before .before .pre .1 .0 .room, c .before .before .before .before .before .before .before .before .before .before .before .before .before .before .before .before .pre .1 .1 .inside, c .before .before .before .hidden .kept .1 .1 .0)) h)
+hidden-hidden-requires t c κs =
+    let w = c .before .before .before .before .before .before .before .before .before .before .before .pre in
+    (omega (arith, w .0), (w .1 .0, near-above _ (c .before .before .before .before .before .before .before .before .before .before .before .pre .1 .0 .valid) _ _ (c .before .before .before .before .before .before .before .record-at .ensures) (λ q. omega (arith, q, w .1 .2)) (w .1 .1), positive _ (w .1 .0 .marked) (omega (arith, c .before .before .if2 .left))))
 
 hidden-slice-write-marks-3 : (t : ℕ) → hidden-lts.Need-slice-write-marks-3 (
   record-at-reads.Asked,
@@ -187,7 +168,7 @@ hidden-slice-write-marks-3 : (t : ℕ) → hidden-lts.Need-slice-write-marks-3 (
   hidden-below t,
   hidden.Post,
 ) (hidden-at t) hidden.Post
-hidden-slice-write-marks-3 t c = omega (arith, c .before .before .before .before .before .before .before .before .before .before .before .before .before .before .before .before .pre .1 .0 .room, c .before .before .before .before .before .before .before .before .before .before .before .before .before .before .before .before .pre .1 .1 .inside, c .before .before .before .hidden .kept .1 .1 .0)
+hidden-slice-write-marks-3 t c = omega (arith, c .before .before .before .before .before .before .before .before .before .before .before .before .before .before .before .pre .1 .0 .room, c .before .before .before .before .before .before .before .before .before .before .before .before .before .before .before .pre .1 .1 .inside, c .before .before .before .hidden .kept .1 .1 .0)
 
 hidden-same-length-3 : (t : ℕ) → hidden-lts.Need-same-length-3 (
   record-at-reads.Asked,
@@ -199,7 +180,7 @@ hidden-same-length-3 : (t : ℕ) → hidden-lts.Need-same-length-3 (
 ) (hidden-at t) hidden.Post
 hidden-same-length-3 t c = simp length-set (c .before .before .before .hidden .kept .1 .1 .0)
 
-hidden-returns-7 : (t : ℕ) → hidden-lts.Need-returns-7 (
+hidden-returns-4 : (t : ℕ) → hidden-lts.Need-returns-4 (
   record-at-reads.Asked,
   record-at-reads.Learnt,
   suspect-reads.Asked,
@@ -207,9 +188,43 @@ hidden-returns-7 : (t : ℕ) → hidden-lts.Need-returns-7 (
   hidden-below t,
   hidden.Post,
 ) (hidden-at t) hidden.Post
-hidden-returns-7 t c = let f = c .before .before .before .hidden .ensures in
-    let h = sym (sym (c .if6 .left) ∙ f .0 ∙ hidden-above _ (c .before .before .before .before .before .before .before .before .before .before .before .before .before .before .before .before .pre .1 .0 .valid) _ _ (c .before .before .before .before .before .before .before .record-at .ensures) _ (c .before .before .before .before .before .before .before .before .before .before .before .before .if1 .left) (sym (c .before .before .before .before .before .before .suspect .ensures) ∙ c .before .before .before .before .before .if5 .left)) in
-    (sym h, mark-seen (f .1) _ (omega (arith, c .before .before .before .before .before .before .before .before .before .before .before .before .before .before .before .before .pre .1 .0 .room, c .before .before .before .before .before .before .before .before .before .before .before .before .before .before .before .before .pre .1 .1 .inside, c .before .before .before .hidden .kept .1 .1 .0)) h)
+hidden-returns-4 t c =
+    let f = c .before .before .before .hidden .ensures in
+    let h = sym (sym (c .if4 .taken) ∙ f .0 ∙ hidden-above _ (c .before .before .before .before .before .before .before .before .before .before .before .before .before .before .before .pre .1 .0 .valid) _ _ (c .before .before .before .before .before .before .before .before .before .before .before .record-at .ensures) _ (λ q. omega (arith, q, c .before .before .before .before .before .before .before .before .before .before .before .before .before .before .before .pre .1 .2)) (sym (c .before .before .before .before .before .before .before .before .before .before .suspect .ensures) ∙ c .before .before .before .before .before .before .before .before .before .if1 .left)) in
+    (sym h, mark-more (f .1) _ 2 (omega (arith, c .before .before .before .before .before .before .before .before .before .before .before .before .before .before .before .pre .1 .0 .room, c .before .before .before .before .before .before .before .before .before .before .before .before .before .before .before .pre .1 .1 .inside, c .before .before .before .hidden .kept .1 .1 .0)) (c .before .before .before .before .before .before .before .before .before .before .before .before .before .before .before .pre .1 .2) h)
+
+hidden-slice-write-marks-4 : (t : ℕ) → hidden-lts.Need-slice-write-marks-4 (
+  record-at-reads.Asked,
+  record-at-reads.Learnt,
+  suspect-reads.Asked,
+  suspect-reads.Learnt,
+  hidden-below t,
+  hidden.Post,
+) (hidden-at t) hidden.Post
+hidden-slice-write-marks-4 t c = omega (arith, c .before .before .before .before .before .before .before .before .before .before .before .before .before .before .before .pre .1 .0 .room, c .before .before .before .before .before .before .before .before .before .before .before .before .before .before .before .pre .1 .1 .inside, c .before .before .before .hidden .kept .1 .1 .0)
+
+hidden-same-length-4 : (t : ℕ) → hidden-lts.Need-same-length-4 (
+  record-at-reads.Asked,
+  record-at-reads.Learnt,
+  suspect-reads.Asked,
+  suspect-reads.Learnt,
+  hidden-below t,
+  hidden.Post,
+) (hidden-at t) hidden.Post
+hidden-same-length-4 t c = simp length-set (c .before .before .before .hidden .kept .1 .1 .0)
+
+hidden-returns-5 : (t : ℕ) → hidden-lts.Need-returns-5 (
+  record-at-reads.Asked,
+  record-at-reads.Learnt,
+  suspect-reads.Asked,
+  suspect-reads.Learnt,
+  hidden-below t,
+  hidden.Post,
+) (hidden-at t) hidden.Post
+hidden-returns-5 t c =
+    let f = c .before .before .before .hidden .ensures in
+    let h = sym (sym (c .if4 .left) ∙ f .0 ∙ hidden-above _ (c .before .before .before .before .before .before .before .before .before .before .before .before .before .before .before .pre .1 .0 .valid) _ _ (c .before .before .before .before .before .before .before .before .before .before .before .record-at .ensures) _ (λ q. omega (arith, q, c .before .before .before .before .before .before .before .before .before .before .before .before .before .before .before .pre .1 .2)) (sym (c .before .before .before .before .before .before .before .before .before .before .suspect .ensures) ∙ c .before .before .before .before .before .before .before .before .before .if1 .left)) in
+    (sym h, mark-more (f .1) _ 1 (omega (arith, c .before .before .before .before .before .before .before .before .before .before .before .before .before .before .before .pre .1 .0 .room, c .before .before .before .before .before .before .before .before .before .before .before .before .before .before .before .pre .1 .1 .inside, c .before .before .before .hidden .kept .1 .1 .0)) (c .before .before .before .before .before .before .before .before .before .before .before .before .before .before .before .pre .1 .2) h)
 
 pub +hidden-spec : {M : Type 1} → statement M
 +hidden-spec = close μ-hidden λ t. hidden-lts.spec (
@@ -222,21 +237,22 @@ pub +hidden-spec : {M : Type 1} → statement M
 )
     (hidden-at t)
     hidden.Post
-    (hidden-returns t)
-    (hidden-slice-read-mark t)
-    (hidden-returns-2 t)
-    (hidden-returns-3 t)
-    (hidden-returns-4 t)
     (hidden-record-at-requires t)
     (hidden-suspect-requires t)
     (hidden-slice-write-marks t)
     (hidden-same-length t)
-    (hidden-returns-5 t)
-    (hidden-sub-hidden t)
-    (hidden-hidden-requires t)
+    (hidden-returns t)
+    (hidden-cast-above t)
+    (hidden-slice-read-above t)
     (hidden-slice-write-marks-2 t)
     (hidden-same-length-2 t)
-    (hidden-returns-6 t)
+    (hidden-returns-2 t)
+    (hidden-returns-3 t)
+    (hidden-sub-hidden t)
+    (hidden-hidden-requires t)
     (hidden-slice-write-marks-3 t)
     (hidden-same-length-3 t)
-    (hidden-returns-7 t)
+    (hidden-returns-4 t)
+    (hidden-slice-write-marks-4 t)
+    (hidden-same-length-4 t)
+    (hidden-returns-5 t)

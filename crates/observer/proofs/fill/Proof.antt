@@ -1,20 +1,34 @@
 -- `observer::fill` meets its contract.
 use borrow.Author.Needs.{needs}
-use Rattle.observer.specs.Laws.{unmarked}
+use Rattle.observer.specs.Laws.{copied, marked-root}
 use Rattle.observer.proofs.fill.Statement.{statement}
 use Rattle.observer.proofs.fill.Tie as tie
 
-slice-aggregate-write : tie.Need-slice-aggregate-write
-slice-aggregate-write c = search needs
+array-write-marks : tie.Need-array-write-marks
+array-write-marks c = search needs
 
-write-requires : tie.Need-write-requires
-write-requires c κs = (unmarked (c .before .before .before .before .before .pre .0) (c .before .before .before .before .before .pre .1), c .before .before .before .before .before .pre .2)
+copy-requires : tie.Need-copy-requires
+copy-requires c κs = search needs
+
+slice-aggregate-hide : tie.Need-slice-aggregate-hide
+slice-aggregate-hide c = search needs
+
+hide-requires : tie.Need-hide-requires
+hide-requires c κs = let w = c .before .before .before .before .before .before .before .before .before .pre in (marked-root (w .0) (w .1), copied _ _ _ (w .2) (c .before .before .before .before .copy .ensures .1))
 
 same-length : tie.Need-same-length
 same-length c = search needs
 
 returns : tie.Need-returns
-returns c = c .before .before .before .write .ensures .0
+returns c = search needs
 
 pub fill-spec : {M : Type 1} → statement M
-fill-spec = tie.close (tie.spec slice-aggregate-write write-requires same-length returns)
+fill-spec =
+    tie.close
+    (tie.spec
+    array-write-marks
+    copy-requires
+    slice-aggregate-hide
+    hide-requires
+    same-length
+    returns)
