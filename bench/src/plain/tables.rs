@@ -156,23 +156,20 @@ pub fn passes(itinerary: &[u8], policy: &[u8]) -> usize {
     least.close(&least.partners(itinerary))
 }
 
-/// The labels reached from the environment.
+/// The labels reached from the environment: each goes one step on, once.
 fn reached(table: &Table, policy: &[u8]) -> [bool; 64] {
     let mut reached = [false; 64];
+    let mut seen = [false; 64];
     reached[0] = true;
-    loop {
-        let before = reached;
-        for x in 0..64 {
-            if reached[x] && policy[x] != BOUNDARY {
-                for (k, found) in reached.iter_mut().enumerate() {
-                    *found |= table.ambients[x] >> k & 1 == 1;
-                }
+    while let Some(x) = (0..64).find(|&x| reached[x] && !seen[x]) {
+        seen[x] = true;
+        if policy[x] != BOUNDARY {
+            for (k, found) in reached.iter_mut().enumerate() {
+                *found |= table.ambients[x] >> k & 1 == 1;
             }
         }
-        if reached == before {
-            return reached;
-        }
     }
+    reached
 }
 
 pub fn verdict(itinerary: &[u8], policy: &[u8], table: &[u8]) -> Result<Verdict, Refusal> {

@@ -1,20 +1,19 @@
 -- Sets as lists of truth values, and the steps to R.
-use Prim.Native.Nat.{_*_, _+_, _<_, _≤_, suc, suc-le-suc, zero, ℕ}
+use Prim.Native.Nat.{_*_, _+_, _-_, _<_, suc, zero, ℕ}
 use borrow.Author.Tests.{eqb-false, ne-eqb, not-true}
-use lib.ListN.{drop, getD, length, replicate, set}
-use lib.Seq.{drop-cons, drop-length, getD-set-other, getD-set-same}
+use lib.ListN.{getD, length, length-set, replicate, set}
+use lib.Seq.{getD-set-other, getD-set-same}
 use mathlib.Core.Bool.{Bool, _&&_, false, not, true, true≢false}
 use mathlib.Core.List.{List, [], _∷_}
-use mathlib.Core.Option.{Option}
-use mathlib.Core.Path.{_∙_, _≡_, ap, ap₂, refl, sym}
+use mathlib.Core.Option.{Option, none}
+use mathlib.Core.Path.{_∙_, _≡_, ap, ap₂, refl, subst, sym}
 use native.Mathlib.Decide.{ℕ-discrete}
-use native.Mathlib.Nat.{le-of-suc-le-suc, le-refl, le-step, le-trans, not-suc-le-self, suc-inj, suc-ne-zero}
-use native.Mathlib.Numerals.{add-one}
+use native.Mathlib.Nat.{le-of-suc-le-suc, not-suc-le-zero}
 use native.Mathlib.Omega.{arith}
 use Rattle.model.specs.Finite.{lowest}
 use Rattle.model.specs.Laws.Checks.{and-make}
-use Rattle.model.specs.Laws.Finite.{lowest-make, lowest-nothing}
-use Rattle.model.specs.Laws.Reach.{reached-below, reached-inside, reached-next, reached-start, trues}
+use Rattle.model.specs.Laws.Finite.{lowest-make, lowest-none, lowest-nothing, lowest-some}
+use Rattle.model.specs.Laws.Reach.{reached-below, reached-inside, reached-next, reached-start, trues, trues-le}
 use Rattle.model.specs.Laws.WellFormed.{and-left, and-right}
 use Rattle.model.specs.Tables.{isBoundary, isHigh, parts, placeI}
 use Rattle.model.specs.Verdicts.{inR, marked, opening, reached, verdictBy, verdictOf}
@@ -22,7 +21,12 @@ use Rattle.model.specs.declared.Verdict.the-variants.{Exposed, Hinted, Sealed}
 use Rattle.reach.specs.Reach.{Origin, Row, Sweep, foundAs}
 use Rattle.reach.specs.declared.Found.{Found}
 use Rattle.reach.specs.declared.Found.the-variants.{At, Nothing}
-use Rattle.tables.specs.Grow.{Below, Grown, Inside, Set, Smallest, loop-end, loop-next, loop-skip, same}
+use Rattle.tables.specs.Grow.{Below, Grown, Inside, Set, Smallest, any, below-step, same}
+
+all-false : (n j : ℕ) → getD (replicate n false) j false ≡ false
+all-false zero j = refl
+all-false (suc n) zero = refl
+all-false (suc n) (suc j) = all-false n j
 
 -- ---- a store
 
@@ -47,75 +51,106 @@ set-true q k h = record {
 abbrev pub RowAt : Set → ℕ → ℕ → Set → Type 0
 RowAt t x k u = t (128 * x + k) ≡ true → u k ≡ true
 
-module _ (t : Set) (x k : ℕ) {s : Set} where
-  pub row-yes : (q : List Bool) → k < 64 → k < length q → t (128 * x + k) ≡ true → Grown (Row t x) (Below (RowAt t x) k) s (marked q) → Grown (Row t x) (Below (RowAt t x) (k + 1)) s (marked (set q k true))
-  unfolding Row
-  row-yes q h l e g = loop-next (RowAt t x) k g (set-true q k l) (λ u i c. c k h e) (λ _ r _. r)
+module _ (t : Set) (x : ℕ) where
+  pub row-none : (s : Set) → Smallest (Below (RowAt t x) 0) s s
+  unfolding Below
+  row-none s = record { keeps = λ j m. m; inside = λ u i c. i; closed = λ k l. absurd (not-suc-le-zero l) }
 
-  pub row-no : {s₁ : Set} → t (128 * x + k) ≡ false → Grown (Row t x) (Below (RowAt t x) k) s s₁ → Grown (Row t x) (Below (RowAt t x) (k + 1)) s s₁
-  row-no e g = loop-skip (RowAt t x) k g (λ _ q. absurd (true≢false (sym q ∙ e)))
+  module _ (k : ℕ) {s : Set} where
+    pub row-yes : (q : List Bool) → k < length q → t (128 * x + k) ≡ true → Smallest (Below (RowAt t x) k) s (marked q) → Smallest (Below (RowAt t x) (k + 1)) s (marked (set q k true))
+    unfolding Below marked
+    row-yes q l e g =
+        let h = set-true q k l in
+        record {
+          keeps = λ j m. h .keeps j (g .keeps j m);
+          inside = λ u i c. h .inside u (g .inside u i (λ y m. c y (omega arith))) (c k (omega arith) e);
+          closed = below-step (RowAt t x) k _ (λ y m f. h .keeps y (g .closed y m f)) (λ _. getD-set-same q k true false l);
+        }
 
-  pub row-end : {s₁ : Set} → k ≡ 64 → Grown (Row t x) (Below (RowAt t x) k) s s₁ → Grown (Row t x) (Row t x) s s₁
-  unfolding Row Below
-  row-end e g = loop-end (RowAt t x) 64 k e (λ u r. r) g
+    pub row-no : {s₁ : Set} → t (128 * x + k) ≡ false → Smallest (Below (RowAt t x) k) s s₁ → Smallest (Below (RowAt t x) (k + 1)) s s₁
+    unfolding Below
+    row-no e g = record {
+      keeps = g .keeps;
+      inside = λ u i c. g .inside u i (λ y m. c y (omega arith));
+      closed = below-step (RowAt t x) k _ (g .closed) (λ f. absurd (true≢false (sym f ∙ e)));
+    }
 
--- ---- a sweep
+    pub row-end : {s₁ : Set} → k ≡ 64 → Smallest (Below (RowAt t x) k) s s₁ → Smallest (Row t x) s s₁
+    unfolding Row Below
+    row-end e g = record { keeps = g .keeps; inside = λ u i c. g .inside u i (λ y m. c y (omega arith)); closed = λ y m. g .closed y (omega arith) }
 
-abbrev pub SweepAt : Set → List ℕ → ℕ → Set → Type 0
-SweepAt t policy x u = u x ≡ true → (getD policy x 0 ≡ 2 → ⊥) → Row t x u
+-- ---- the labels seen
 
-module _ (t : Set) (policy : List ℕ) (x : ℕ) {s s₁ : Set} (g : Grown (Sweep t policy) (Below (SweepAt t policy) x) s s₁) where
-  pub sweep-yes : {s₂ : Set} → x < 64 → s₁ x ≡ true → (getD policy x 0 ≡ 2 → ⊥) → Grown (Row t x) (Row t x) s₁ s₂ → Grown (Sweep t policy) (Below (SweepAt t policy) (x + 1)) s s₂
-  unfolding Sweep
-  sweep-yes h m d p = loop-next (SweepAt t policy) x g p (λ u i c. c x h (i x m) d) (λ _ r _ _. r)
-
-  pub sweep-out : s₁ x ≡ false → Grown (Sweep t policy) (Below (SweepAt t policy) (x + 1)) s s₁
-  sweep-out d = loop-skip (SweepAt t policy) x g (λ _ m. absurd (true≢false (sym (g .keeps x m) ∙ d)))
-
-  pub sweep-boundary : getD policy x 0 ≡ 2 → Grown (Sweep t policy) (Below (SweepAt t policy) (x + 1)) s s₁
-  sweep-boundary e = loop-skip (SweepAt t policy) x g (λ _ _ d. absurd (d e))
-
-  pub sweep-end : x ≡ 64 → Grown (Sweep t policy) (Sweep t policy) s s₁
-  unfolding Sweep Below
-  sweep-end e = loop-end (SweepAt t policy) 64 x e (λ u r. r) g
-
--- ---- the count
-
-module _ (r : List Bool) (i : ℕ) (h : i < length r) where
-  first : drop i r ≡ getD r i false ∷ drop (i + 1) r
-  first = drop-cons r i false h ∙ ap (λ (k : ℕ). getD r i false ∷ drop k r) (sym (add-one i))
-
-  pub trues-yes : getD r i false ≡ true → trues (drop i r) ≡ 1 + trues (drop (i + 1) r)
-  unfolding trues
-  trues-yes e = ap trues (first ∙ ap (λ (x : Bool). x ∷ drop (i + 1) r) e) ∙ omega arith
-
-  pub trues-no : getD r i false ≡ false → trues (drop i r) ≡ trues (drop (i + 1) r)
-  unfolding trues
-  trues-no e = ap trues (first ∙ ap (λ (x : Bool). x ∷ drop (i + 1) r) e)
-
-pub trues-end : (r : List Bool) (i : ℕ) → i ≡ length r → trues (drop i r) ≡ 0
-unfolding trues
-trues-end r i e = ap (λ (k : ℕ). trues (drop k r)) e ∙ ap trues (drop-length r)
-
-pub record Less (xs ys : List Bool) : Type 0 where
-  pub le : trues xs ≤ trues ys
-  pub all : trues ys ≤ trues xs → xs ≡ ys
-
-pub less : (xs ys : List Bool) → length xs ≡ length ys → Inside (marked xs) (marked ys) → Less xs ys
+trues-more : (xs : List Bool) (k : ℕ) → k < length xs → marked xs k ≡ false → trues (set xs k true) ≡ suc (trues xs)
 unfolding trues marked
-less [] [] e s = record { le = le-refl 0; all = λ _. refl }
-less [] (y ∷ ys) e s = absurd (suc-ne-zero (length ys) (sym e))
-less (x ∷ xs) [] e s = absurd (suc-ne-zero (length xs) e)
-less (true ∷ xs) (true ∷ ys) e s =
-    let r : Less xs ys = less xs ys (suc-inj e) (λ j. s (suc j)) in
-    record { le = suc-le-suc (r .le); all = λ h. ap (λ (zs : List Bool). true ∷ zs) (r .all (le-of-suc-le-suc h)) }
-less (true ∷ xs) (false ∷ ys) e s = absurd (true≢false (sym (s 0 refl)))
-less (false ∷ xs) (true ∷ ys) e s =
-    let r : Less xs ys = less xs ys (suc-inj e) (λ j. s (suc j)) in
-    record { le = le-step (r .le); all = λ h. absurd (not-suc-le-self (trues ys) (le-trans h (r .le))) }
-less (false ∷ xs) (false ∷ ys) e s =
-    let r : Less xs ys = less xs ys (suc-inj e) (λ j. s (suc j)) in
-    record { le = r .le; all = λ h. ap (λ (zs : List Bool). false ∷ zs) (r .all h) }
+trues-more [] k l e = absurd (not-suc-le-zero l)
+trues-more (true ∷ xs) zero l e = absurd (true≢false e)
+trues-more (false ∷ xs) zero l e = refl
+trues-more (true ∷ xs) (suc k) l e = ap suc (trues-more xs k (le-of-suc-le-suc l) e)
+trues-more (false ∷ xs) (suc k) l e = trues-more xs k (le-of-suc-le-suc l) e
+
+-- with one more seen, fewer are left
+pub fewer-left : (seen : List Bool) (k : ℕ) → length seen ≡ 64 → k < 64 → marked seen k ≡ false → 64 - trues (set seen k true) < 64 - trues seen
+fewer-left seen k e l n =
+    let m = trues-more seen k (omega (arith, e)) n in
+    let o : length (set seen k true) ≡ 64 = simp length-set e in
+    omega (arith, m, trues-le (set seen k true))
+
+-- what the search for a label that is not yet seen found
+pub record Unseen (r seen : List Bool) (k : ℕ) : Type 0 where
+  pub below : k < 64
+  pub has : marked r k ≡ true
+  pub new : marked seen k ≡ false
+
+module _ (r seen : List Bool) (f : Found) (e : foundAs f ≡ lowest (λ k. marked r k && not (marked seen k)) 0 64) where
+  pub unseen-at : (k : ℕ) → f ≡ At k → Unseen r seen k
+  unfolding foundAs
+  unseen-at k q =
+      let w = lowest-some (λ j. marked r j && not (marked seen j)) 0 64 k (sym e ∙ ap foundAs q) in
+      record { below = omega (arith, w .1); has = and-left _ _ (w .2); new = not-true _ (and-right (marked r k) _ (w .2)) }
+
+  pub unseen-none : f ≡ Nothing → lowest (λ k. marked r k && not (marked seen k)) 0 64 ≡ none
+  unfolding foundAs
+  unseen-none q = sym e ∙ ap foundAs q
+
+module _ (t : Set) (policy : List ℕ) where
+  -- the rows of the labels seen are in r
+  abbrev pub Seen : List Bool → Set → Type 0
+  Seen seen r = (x : ℕ) → marked seen x ≡ true → (getD policy x 0 ≡ 2 → ⊥) → Row t x r
+
+  pub seen-none : (r : Set) → Seen (replicate 64 false) r
+  unfolding marked
+  seen-none r x m = absurd (true≢false (sym m ∙ all-false 64 x))
+
+  module _ (seen : List Bool) (r : Set) (w : Seen seen r) where
+    pub seen-more : (x : ℕ) {q : Set} → Inside r q → ((getD policy x 0 ≡ 2 → ⊥) → Row t x q) → Seen (set seen x true) q
+    unfolding marked Row
+    seen-more x {q} i f y m d = go (ℕ-discrete y x)
+      where
+        go : Dec (y ≡ x) → Row t y q
+        go (yes e) = subst (λ (z : ℕ). Row t z q) (sym e) (f (λ g. d (ap (λ (z : ℕ). getD policy z 0) e ∙ g)))
+        go (no n) = λ k l h. i k (w y (sym (getD-set-other seen x y true false n) ∙ m) d k l h)
+
+    -- all that r has are seen
+    pub seen-all : lowest (λ k. r k && not (marked seen k)) 0 64 ≡ none → Sweep t policy r
+    unfolding Sweep
+    seen-all e x l m d = w x (go (marked seen x) refl) d
+      where
+        go : (b : Bool) → marked seen x ≡ b → marked seen x ≡ true
+        go true q = q
+        go false q = absurd (true≢false (sym (and-make m (ap not q)) ∙ lowest-none _ 0 64 e x (omega arith) (omega arith)))
+
+  -- a step from a label that r has
+  pub step-on : (x : ℕ) {s r q : Set} → x < 64 → r x ≡ true → (getD policy x 0 ≡ 2 → ⊥) → Grown (Sweep t policy) any s r → Smallest (Row t x) r q → Grown (Sweep t policy) any s q
+  unfolding Sweep
+  step-on x l m d g h = record {
+    keeps = λ j a. h .keeps j (g .keeps j a);
+    inside = λ u i c. let k = g .inside u i c in h .inside u k (c x l (k x m) d);
+    done = λ b. g .done (λ j a. b j (h .keeps j a));
+  }
+
+  pub sealed-off : {s r : Set} → Grown (Sweep t policy) any s r → Sweep t policy r → Smallest (Sweep t policy) s r
+  sealed-off g c = record { keeps = g .keeps; inside = g .inside; closed = c }
 
 -- ---- R
 
@@ -140,11 +175,6 @@ module _ (u : Set) (policy : List ℕ) where
       (λ x lx m d k lk t. reached-next 64 edge x k lx lk m (edge-make x k t d)))
       (λ j m. reached-inside 64 edge (marked r) (L .keeps 0 (o .has))
       (λ x k lx lk h q. let w = edge-use x k q in L .closed x lx h (w .1) k lk (w .0)) j (reached-below 64 edge j m) m)
-
-all-false : (n j : ℕ) → getD (replicate n false) j false ≡ false
-all-false zero j = refl
-all-false (suc n) zero = refl
-all-false (suc n) (suc j) = all-false n j
 
 pub origin-is : Origin (marked (true ∷ replicate 63 false))
 unfolding marked

@@ -1,15 +1,14 @@
 // The labels an observer may reach from the environment, and the verdict on a table that holds.
 use model::Verdict;
 ghost use mathlib.Core.Path.{_≡_};
-ghost use mathlib.Core.Bool.{_&&_};
+ghost use mathlib.Core.Bool.{_&&_, not};
 ghost use Prim.Native.Nat.{_<_};
 ghost use lib.ListN.{length};
 ghost use Rattle.model.specs.Finite.{lowest};
-ghost use Rattle.model.specs.Laws.Reach.{trues};
 ghost use Rattle.model.specs.Tables.{bits, isHigh, parts, suspects};
 ghost use Rattle.model.specs.Verdicts.{inR, marked, verdictOf};
-ghost use Rattle.tables.specs.Grow.{Grown};
-ghost use Rattle.reach.specs.Reach.{Origin, Row, Sweep, foundAs};
+ghost use Rattle.tables.specs.Grow.{Smallest};
+ghost use Rattle.reach.specs.Reach.{Origin, Row, foundAs};
 
 // The lowest label that a search finds, if any.
 pub enum Found {
@@ -17,11 +16,20 @@ pub enum Found {
     Nothing,
 }
 
+// The set with the environment alone.
+fn origin() -> [bool; 64]
+    ensures { λ q. ⌜ Origin (marked q) ⌝ }
+{
+    let mut r = [false; 64];
+    r[0] = true;
+    r
+}
+
 // The set with the labels that may stand directly in x. (inner)
 fn step(r: [bool; 64], table: &[u8], x: usize) -> [bool; 64]
     requires { ⌜ length (now table) ≡ 1544 ⌝ }
     requires { ⌜ x < 64 ⌝ }
-    ensures { λ q. ⌜ Grown (Row (bits (now (table .entry))) x) (Row (bits (now (table .entry))) x) (marked r) (marked q) ⌝ }
+    ensures { λ q. ⌜ Smallest (Row (bits (now (table .entry))) x) (marked r) (marked q) ⌝ }
 {
     let mut q = r;
     let mut k: usize = 0;
@@ -34,65 +42,39 @@ fn step(r: [bool; 64], table: &[u8], x: usize) -> [bool; 64]
     q
 }
 
-// One step from each label of the set whose class is not boundary. (inner)
-fn sweep(r: [bool; 64], table: &[u8], policy: &[u8]) -> [bool; 64]
-    requires { ⌜ length (now table) ≡ 1544 ⌝ }
-    requires { ⌜ length (now policy) ≡ 64 ⌝ }
-    ensures { λ q. ⌜ Grown (Sweep (bits (now (table .entry))) (now (policy .entry))) (Sweep (bits (now (table .entry))) (now (policy .entry))) (marked r) (marked q) ⌝ }
+// The lowest label of the set that is not yet seen.
+fn lowest_unseen(r: [bool; 64], seen: [bool; 64]) -> Found
+    ensures { λ q. ⌜ foundAs q ≡ lowest (λ k. marked r k && not (marked seen k)) 0 64 ⌝ }
 {
-    let mut q = r;
-    let mut x: usize = 0;
-    while x < 64 {
-        if q[x] {
-            if policy[x] != 2 {
-                q = step(q, table, x);
-            }
+    let mut k: u8 = 0;
+    while k < 64 {
+        let at = k as usize;
+        if r[at] & !seen[at] {
+            return Found::At(k);
         }
-        x += 1;
+        k += 1;
     }
-    q
+    Found::Nothing
 }
 
-// How many labels the set has.
-fn size(r: [bool; 64]) -> u32
-    ensures { λ n. ⌜ n ≡ trues r ⌝ }
-{
-    let mut n: u32 = 0;
-    let mut i: usize = 0;
-    while i < 64 {
-        if r[i] {
-            n += 1;
-        }
-        i += 1;
-    }
-    n
-}
-
-// The set with the environment alone.
-fn origin() -> [bool; 64]
-    ensures { λ q. ⌜ Origin (marked q) ⌝ }
-{
-    let mut r = [false; 64];
-    r[0] = true;
-    r
-}
-
-// The reached labels. (inner)
+// The reached labels. (inner) Each label goes one step on, once, unless it is a boundary.
 pub fn reach(table: &[u8], policy: &[u8]) -> [bool; 64]
     requires { ⌜ length (now table) ≡ 1544 ⌝ }
     requires { ⌜ length (now policy) ≡ 64 ⌝ }
     ensures { λ q. ⌜ marked q ≡ inR (parts (bits (now (table .entry)))) (now (policy .entry)) ⌝ }
 {
     let mut r = origin();
-    let mut n = size(r);
+    let mut seen = [false; 64];
     loop {
-        let s = sweep(r, table, policy);
-        let m = size(s);
-        if m == n {
-            return s;
+        let Found::At(k) = lowest_unseen(r, seen) else {
+            return r;
+        };
+        let x = k as usize;
+        seen[x] = true;
+        if policy[x] != 2 {
+            let q = step(r, table, x);
+            r = q;
         }
-        r = s;
-        n = m;
     }
 }
 

@@ -9,20 +9,19 @@ use mathlib.Core.Path.{_∙_, _≡_, ap, refl, subst, sym}
 use native.Mathlib.Omega.{arith}
 use Rattle.model.specs.Tables.{bits}
 use Rattle.model.specs.Verdicts.{marked}
-use Rattle.reach.specs.Laws.{RowAt, row-end, row-no, row-yes}
-use Rattle.reach.specs.Reach.{Row}
-use Rattle.tables.specs.Grow.{Below, Grown, loop-none}
+use Rattle.reach.specs.Laws.{RowAt, row-end, row-no, row-none, row-yes}
+use Rattle.tables.specs.Grow.{Below, Smallest}
 use Rattle.reach.proofs.step.Statement.{statement}
 use Rattle.reach.proofs.step.Tie as tie
 
 abbrev Inv-loop : tie.InvT-loop
-Inv-loop table x q₀ k₀ q k = (length q ≡ length q₀) × (k ≤ 64) × Grown (Row (bits table) x) (Below (RowAt (bits table) x) k) (marked q₀) (marked q)
+Inv-loop table x q₀ k₀ q k = (length q ≡ length q₀) × (k ≤ 64) × Smallest (Below (RowAt (bits table) x) k) (marked q₀) (marked q)
 
 abbrev μ-loop : tie.MeasureT-loop
 μ-loop table x q₀ k₀ q k = 64 - k
 
 loop-holds : tie.Need-loop-holds Inv-loop μ-loop
-loop-holds c = (refl, omega arith, loop-none (RowAt (bits (c .before .args .table .now)) (c .before .args .x)))
+loop-holds c = (refl, omega arith, row-none (bits (c .before .args .table .now)) (c .before .args .x) _)
 
 mul-bit : tie.Need-mul-bit Inv-loop μ-loop
 mul-bit c = omega arith
@@ -48,12 +47,12 @@ loop-again c =
     let l : length (c .before .before .before .before .before .args .r) ≡ 64 = search needs in
     let p = c .before .before .before .loop in
     let t = bits (a .table .now) in
-    let at : List Bool → Type 0 = λ y. Grown (Row (bits (a .table .now)) (a .x)) (Below (RowAt (bits (a .table .now)) (a .x)) (p .k + 1)) (marked (a .r)) (marked y) in
+    let at : List Bool → Type 0 = λ y. Smallest (Below (RowAt (bits (a .table .now)) (a .x)) (p .k + 1)) (marked (a .r)) (marked y) in
     ⊎-elim
     (λ v. (
       ap length (v .1) ∙ simp length-set (p .inv .0),
       omega arith,
-      subst at (sym (v .1)) (row-yes t (a .x) (p .k) (p .q) (omega arith) (omega arith) (sym (c .before .bit .ensures) ∙ v .0 .taken) (p .inv .2)),
+      subst at (sym (v .1)) (row-yes t (a .x) (p .k) (p .q) (omega arith) (sym (c .before .bit .ensures) ∙ v .0 .taken) (p .inv .2)),
     ))
     (λ v. (
       ap length (v .1) ∙ p .inv .0,
