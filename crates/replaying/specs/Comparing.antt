@@ -1,16 +1,15 @@
 -- The comparisons that decide a replay. (Document 01: "an independent simulator's results are compared by running".)
 use Prim.Native.Nat.{_+_, ℕ}
 use lib.Dec.{eqb, ltb}
+use lib.ListN.{drop, length, take}
 use mathlib.Core.Bool.{Bool, _&&_, false, true}
-use mathlib.Core.List.{List, [], _∷_}
+use mathlib.Core.List.{List, [], _++_, _∷_}
 use Rattle.replaying.specs.declared.Result.{Result}
 use Rattle.replaying.specs.declared.Tally.{Tally}
 
 -- what fits of one list, written over another
 unfoldable pub over : List ℕ → List ℕ → List ℕ
-over [] to = to
-over (x ∷ xs) [] = []
-over (x ∷ xs) (y ∷ ys) = x ∷ over xs ys
+over from to = take (length to) from ++ drop (length from) to
 
 -- two lists have the same length and the same bytes
 unfoldable pub sameBytes : List ℕ → List ℕ → Bool

@@ -1,13 +1,13 @@
 -- The laws of the comparisons.
-use Prim.Native.Nat.{_+_, _<_, _≤_, suc, zero, ℕ}
+use Prim.Native.Nat.{_+_, _<_, _≤_, suc, ℕ}
 use borrow.Author.Tests.{eq-eqb, eqb-true, le-ltb, lt-ltb, ne-eqb}
 use lib.Dec.{eqb}
-use lib.ListN.{drop, getD, length, set, take}
-use lib.Seq.{drop-cons, drop-length, take-all}
+use lib.ListN.{drop, drop-of-length-le, getD, length, take}
+use lib.Seq.{drop-cons, drop-length, length-take-le, take-all}
 use mathlib.Core.Bool.{Bool, _&&_, false, true, true≢false}
-use mathlib.Core.List.{List, [], _∷_}
+use mathlib.Core.List.{List, [], _++_, _∷_}
 use mathlib.Core.Path.{_∙_, _≡_, ap, ap₂, refl, sym}
-use native.Mathlib.Nat.{le-of-suc-le-suc, not-suc-le-zero}
+use native.Mathlib.Decide.{decLe}
 use native.Mathlib.Numerals.{add-one}
 use native.Mathlib.Omega.{arith}
 use Rattle.model.specs.Laws.WellFormed.{and-left, and-right}
@@ -16,37 +16,25 @@ use Rattle.replaying.specs.declared.Tally.{Tally}
 
 -- ---- copying
 
--- a byte that is not there is not written
-pub set-past : (l : List ℕ) (i x : ℕ) → length l ≤ i → l ≡ set l i x
-set-past [] i x h = refl
-set-past (y ∷ ys) zero x h = absurd (not-suc-le-zero h)
-set-past (y ∷ ys) (suc i) x h = ap (λ (zs : List ℕ). y ∷ zs) (set-past ys i x (le-of-suc-le-suc h))
+-- f is what fits of from, copied to the start of to
+module _ (from to f : List ℕ) (e : f ≡ take (length to) from) where
+  pub fits : length f ≤ length to
+  fits = go (decLe (length from) (length to))
+    where
+      go : Dec (length from ≤ length to) → length f ≤ length to
+      go (yes l) = omega (arith, ap length (e ∙ take-all (length to) from l))
+      go (no n) = omega (arith, ap length e, length-take-le (length to) from (omega arith))
 
-pub over-none : (to : List ℕ) → over [] to ≡ to
-unfolding over
-over-none to = refl
-
-pub over-length : (from to : List ℕ) → length (over from to) ≡ length to
-unfolding over
-over-length [] to = refl
-over-length (x ∷ xs) [] = refl
-over-length (x ∷ xs) (y ∷ ys) = ap suc (over-length xs ys)
-
-more-over : (from to : List ℕ) (i : ℕ) → i < length from → set (over (take i from) to) i (getD from i 0) ≡ over (take (suc i) from) to
-unfolding over
-more-over [] to i h = absurd (not-suc-le-zero h)
-more-over (x ∷ xs) [] zero h = refl
-more-over (x ∷ xs) [] (suc i) h = refl
-more-over (x ∷ xs) (y ∷ ys) zero h = refl
-more-over (x ∷ xs) (y ∷ ys) (suc i) h = ap (λ (zs : List ℕ). x ∷ zs) (more-over xs ys i (le-of-suc-le-suc h))
-
--- one byte more is copied; all are
-module _ (from to₀ to : List ℕ) (i : ℕ) (e : to ≡ over (take i from) to₀) where
-  pub over-next : i < length from → set to i (getD from i 0) ≡ over (take (i + 1) from) to₀
-  over-next h = ap (λ (l : List ℕ). set l i (getD from i 0)) e ∙ more-over from to₀ i h ∙ ap (λ (k : ℕ). over (take k from) to₀) (sym (add-one i))
-
-  pub over-all : length from ≤ i → to ≡ over from to₀
-  over-all h = e ∙ ap (λ (l : List ℕ). over l to₀) (take-all i from h)
+  pub over-is : take (length f) f ++ drop (length f) to ≡ over from to
+  unfolding over
+  over-is = ap₂ (λ (x y : List ℕ). x ++ y) (take-all (length f) f (omega arith) ∙ e) (rest (decLe (length from) (length to)))
+    where
+      rest : Dec (length from ≤ length to) → drop (length f) to ≡ drop (length from) to
+      rest (yes l) = ap (λ (x : List ℕ). drop (length x) to) (e ∙ take-all (length to) from l)
+      rest (no n) =
+          let l : length to ≤ length from = omega arith in
+          let m : length to ≤ length f = omega (arith, ap length e, length-take-le (length to) from l) in
+          drop-of-length-le to m ∙ sym (drop-of-length-le to l)
 
 -- ---- comparing
 

@@ -1,7 +1,7 @@
 // Comparing what a call gave with what a stored case says: the tests that decide a replay.
 // Nothing here is a call of the product. (The format of the cases is in simulator/README.md.)
 ghost use mathlib.Core.Path.{_≡_};
-ghost use lib.ListN.{set, take};
+ghost use lib.ListN.{take};
 ghost use Rattle.replaying.specs.Comparing.{agreeing, counting, more, over, sameBytes, values, without};
 
 // The first n bytes of a buffer, or all of it where it has fewer.
@@ -14,24 +14,11 @@ pub fn part<'a>(s: &'a [u8], n: usize) -> &'a [u8]
     &s[..n]
 }
 
-// Writes byte i, where there is one.
-fn put(to: &mut [u8], i: usize, x: u8)
-    ensures { λ _. ⌜ now (to .exit) ≡ set (now (to .entry)) i x ⌝ }
-{
-    if i < to.len() {
-        to[i] = x;
-    }
-}
-
 // Copies what fits of one buffer to another.
 pub fn copy(from: &[u8], to: &mut [u8])
     ensures { λ _. ⌜ now (to .exit) ≡ over (now (from .entry)) (now (to .entry)) ⌝ }
 {
-    let mut i: usize = 0;
-    while i < from.len() {
-        put(to, i, from[i]);
-        i += 1;
-    }
+    bytes::copy(part(from, to.len()), to);
 }
 
 // Whether two buffers have the same bytes.
