@@ -8,6 +8,7 @@ pub mod Checks
 pub mod Bytes
 pub mod Done
 pub mod Containers
+pub mod Above
 pub mod Holding
 pub mod Bit
 pub mod Sets
