@@ -396,6 +396,17 @@ fn expect(fd: i32, op: u8, shadow: &mut [u8]) {
     }
 }
 
+// The commands that set a buffer that no call may write: the state with its length.
+fn input_command(fd: i32, op: u8, s: State, policy: &mut [u8], script: &mut [u8]) -> State {
+    let mut next = s;
+    if op == 2 {
+        next.policy = fill(fd, policy);
+        return next;
+    }
+    next.script = fill(fd, script);
+    next
+}
+
 // The commands that set a buffer and its shadow: the state with its length.
 fn set_command(
     fd: i32,
@@ -403,8 +414,6 @@ fn set_command(
     s: State,
     it: &mut [u8],
     it2: &mut [u8],
-    policy: &mut [u8],
-    script: &mut [u8],
     answers: &mut [u8],
     answers2: &mut [u8],
     sheet: &mut [u8],
@@ -413,14 +422,6 @@ fn set_command(
     let mut next = s;
     if op == 1 {
         next.it = set(fd, it, it2);
-        return next;
-    }
-    if op == 2 {
-        next.policy = fill(fd, policy);
-        return next;
-    }
-    if op == 4 {
-        next.script = fill(fd, script);
         return next;
     }
     if op == 5 {
@@ -448,6 +449,13 @@ fn table_command(fd: i32, op: u8, s: State, table: &mut [u8], table2: &mut [u8])
     next
 }
 
+// The state after a call that gave what the file says, or did not.
+fn tallied(s: State, right: bool) -> State {
+    let mut next = s;
+    next.tally = replaying::counted(s.tally, right);
+    next
+}
+
 // One command of the file's.
 fn command(
     fd: i32,
@@ -467,10 +475,7 @@ fn command(
     if 16 <= op {
         let agrees = call(fd, op, s, it, policy, table, script, answers, sheet);
         let kept = as_shadowed(s, it, it2, table, table2, answers, answers2, sheet, sheet2);
-        let tally = replaying::counted(s.tally, agrees & kept);
-        let mut next = s;
-        next.tally = tally;
-        return next;
+        return tallied(s, agrees & kept);
     }
     if 9 <= op {
         shadow_command(fd, op, s, it2, table2, answers2, sheet2);
@@ -479,19 +484,10 @@ fn command(
     if (op == 3) | (op == 7) | (op == 8) {
         return table_command(fd, op, s, table, table2);
     }
-    set_command(
-        fd,
-        op,
-        s,
-        it,
-        it2,
-        policy,
-        script,
-        answers,
-        answers2,
-        sheet,
-        sheet2,
-    )
+    if (op == 2) | (op == 4) {
+        return input_command(fd, op, s, policy, script);
+    }
+    set_command(fd, op, s, it, it2, answers, answers2, sheet, sheet2)
 }
 
 // No buffer has bytes, and no call was made.
