@@ -1,11 +1,11 @@
 -- What the inner contracts cite: the number of a reading, and climbs that stop at records known to reach the environment.
 use Prim.Native.Nat.{_%_, _<_, _≤_, ℕ}
 use lib.ListN.{getD, length}
-use mathlib.Core.Bool.{Bool, _&&_, true}
+use mathlib.Core.Bool.{Bool, _&&_, false, true}
 use mathlib.Core.List.{List}
 use mathlib.Core.Path.{_≡_}
 use Rattle.model.specs.Climbing.{reaches, reaching, viewFrom}
-use Rattle.model.specs.Records.{count, parentOf, records}
+use Rattle.model.specs.Records.{count, decode, isAmbient, parentOf, records}
 use Rattle.model.specs.Validity.{goneRight, kindRight, spareRight}
 use Rattle.model.specs.declared.Reading.{Reading}
 use Rattle.model.specs.declared.Reading.the-variants.{Record, Refused}
@@ -19,6 +19,10 @@ readingNumber (Refused k) = k
 -- refusal 2 does not apply to record i, which is r
 unfoldable pub formRight : List ℕ → ℕ → Rec → Bool
 formRight s i r = kindRight r && (spareRight s i && goneRight r)
+
+-- the number above an ambient, and i itself where it is none
+unfoldable pub upFrom : List ℕ → ℕ → ℕ
+upFrom s i = elim (isAmbient (decode s i)) [ true ↦ decode s i .parent | false ↦ i ]
 
 -- whole records, not too many, whose parents are within the count
 pub record Parented (s : List ℕ) : Type 0 where

@@ -4,7 +4,7 @@ use borrow.Author.Tests.{eq-eqb, leb-true, ne-eqb}
 use lib.Dec.{eqb, leb}
 use lib.ListN.{getD, length, length-replicate, length-set, replicate, set}
 use lib.Seq.{getD-set-other, getD-set-same}
-use mathlib.Core.Bool.{Bool, _&&_, false, not, true}
+use mathlib.Core.Bool.{Bool, _&&_, false, not, true, true≢false}
 use mathlib.Core.List.{List, [], _∷_}
 use mathlib.Core.Logic.{_≢_}
 use mathlib.Core.Path.{_∙_, _≡_, ap, ap₂, refl, sym}
@@ -12,9 +12,10 @@ use native.Mathlib.Decide.{decLe, ℕ-discrete}
 use native.Mathlib.Nat.{zero-lt-suc}
 use native.Mathlib.Omega.{arith}
 use Rattle.model.specs.Calls.{validateAnswer}
-use Rattle.model.specs.Climbing.{View, reaches, reaching, view, viewFrom}
+use Rattle.model.specs.Climbing.{View, reaches, reaching, standing, view, viewFrom}
 use Rattle.model.specs.Laws.Bytes.{rec-path, at-whole, length-records, passed, size-le, size-whole, sound-record}
 use Rattle.model.specs.Laws.Checks.{answer-done, bool-iff, each-pass, need-make}
+use Rattle.model.specs.Laws.Containers.{ambient-and, not-ambient-and}
 use Rattle.model.specs.Laws.Forest.{Depth, above, depth-le, under-of}
 use Rattle.model.specs.Laws.Updates.{at-over, at-root}
 use Rattle.model.specs.Laws.Views.{depth-reaches, from-lost, from-on, from-top, reaches-depth}
@@ -28,7 +29,7 @@ use Rattle.model.specs.declared.Rec.{Rec}
 use Rattle.model.specs.declared.Refusal.{Refusal}
 use Rattle.model.specs.declared.Validated.{Validated}
 use Rattle.model.specs.declared.Validated.the-variants.{Done as Good, Refused as Bad}
-use Rattle.itinerary.specs.Known.{Climbable, Enough, Known, Parented, formRight}
+use Rattle.itinerary.specs.Known.{Climbable, Enough, Known, Parented, formRight, upFrom}
 
 pub parent-right : (s : List ℕ) (p b : ℕ) → p ≢ 0 → b ≡ byteOf s p 0 → (leb p (length s / 8) && not (eqb b 0)) ≡ parentRight s p
 unfolding parentRight count
@@ -267,6 +268,53 @@ ambient-is r e = eq-eqb _ _ e
 pub ambient-not : (r : Rec) → r .kind ≢ 1 → isAmbient r ≡ false
 unfolding isAmbient
 ambient-not r h = ne-eqb _ _ h
+
+-- climbing past ambients; r is record i
+module _ (s : List ℕ) (m : length s % 8 ≡ 0) (i : ℕ) (r : Rec) (e : r ≡ decode s i) where
+  pub ambient-pos : isAmbient r ≡ true → i ≢ 0
+  unfolding isAmbient
+  ambient-pos t z = true≢false (sym t ∙ ap isAmbient (e ∙ ap (decode s) z ∙ sym (at-whole s m 0) ∙ at-root (records s)))
+
+  pub standing-on : (left : ℕ) → left ≢ 0 → isAmbient r ≡ true → viewFrom standing (records s) left i ≡ viewFrom standing (records s) (left - 1) (r .parent)
+  standing-on left n t = climb-on standing s left i m (ambient-pos t) n r e ∙ ambient-and _ _ t
+
+  pub standing-stop : (k : ℕ) → isAmbient r ≡ false → viewFrom standing (records s) k i ≡ eqb i 0
+  standing-stop k t = go (ℕ-discrete i 0) (ℕ-discrete k 0)
+    where
+      go : Dec (i ≡ 0) → Dec (k ≡ 0) → viewFrom standing (records s) k i ≡ eqb i 0
+      go (yes z) _ = climb-top standing s k i z ∙ sym (eq-eqb i 0 z)
+      go (no z) (yes q) = climb-lost standing s k i z q ∙ sym (ne-eqb i 0 z)
+      go (no z) (no q) = climb-on standing s k i m z q r e ∙ not-ambient-and _ _ t ∙ sym (ne-eqb i 0 z)
+
+module _ (s : List ℕ) (m : length s % 8 ≡ 0) where
+  -- one climb up
+  standing-up : (left i : ℕ) → left ≢ 0 → viewFrom standing (records s) left i ≡ viewFrom standing (records s) (left - 1) (upFrom s i)
+  unfolding upFrom
+  standing-up left i n = go (isAmbient (decode s i)) refl
+    where
+      go : (t : Bool) → isAmbient (decode s i) ≡ t → viewFrom standing (records s) left i ≡ viewFrom standing (records s) (left - 1) (elim t [ true ↦ decode s i .parent | false ↦ i ])
+      go true q = standing-on s m i _ refl left n q
+      go false q = standing-stop s m i _ refl left q ∙ sym (standing-stop s m i _ refl (left - 1) q)
+
+  -- four climbs from an ambient; a, b and c are the numbers between
+  pub standing-far : (left i : ℕ) (r : Rec) → r ≡ decode s i → isAmbient r ≡ true → 4 ≤ left → (a b c : ℕ) → a ≡ upFrom s (r .parent) → b ≡ upFrom s a → c ≡ upFrom s b →
+      viewFrom standing (records s) left i ≡ viewFrom standing (records s) (left - 4) c
+  standing-far left i r e t l a b c p q o =
+      let u : left - 1 - 1 - 1 - 1 ≡ left - 4 = omega arith in
+      standing-on s m i r e left (λ z. omega arith) t
+      ∙ standing-up (left - 1) (r .parent) (λ z. omega arith) ∙ ap (viewFrom standing (records s) (left - 1 - 1)) (sym p)
+      ∙ standing-up (left - 1 - 1) a (λ z. omega arith) ∙ ap (viewFrom standing (records s) (left - 1 - 1 - 1)) (sym q)
+      ∙ standing-up (left - 1 - 1 - 1) b (λ z. omega arith) ∙ ap (viewFrom standing (records s) (left - 1 - 1 - 1 - 1)) (sym o)
+      ∙ ap (λ k. viewFrom standing (records s) k c) u
+
+module _ (s : List ℕ) (i : ℕ) (r : Rec) (e : r ≡ decode s i) where
+  pub up-over : r .kind ≡ 1 → r .parent ≡ upFrom s i
+  unfolding upFrom
+  up-over k = ap (λ x. x .parent) e ∙ sym (ap (λ (t : Bool). elim t [ true ↦ decode s i .parent | false ↦ i ]) (ap isAmbient (sym e) ∙ ambient-is r k))
+
+  pub up-stays : r .kind ≢ 1 → i ≡ upFrom s i
+  unfolding upFrom
+  up-stays k = sym (ap (λ (t : Bool). elim t [ true ↦ decode s i .parent | false ↦ i ]) (ap isAmbient (sym e) ∙ ambient-not r k))
 
 -- reaching the environment, past refusals 1 to 5
 module _ {s : List ℕ} (p : Parented s) where

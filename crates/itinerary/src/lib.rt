@@ -14,7 +14,7 @@ ghost use Rattle.model.specs.Validity.{climbCheck, goneRight, labelRight, nameR
 ghost use Rattle.model.specs.Calls.{containerAnswer, validateAnswer};
 ghost use Rattle.model.specs.Numbers.{containedAs, readingOf, validatedAs};
 ghost use Rattle.itinerary.specs.Written.{withRecord};
-ghost use Rattle.itinerary.specs.Known.{Climbable, Enough, Known, Parented, formRight, readingNumber};
+ghost use Rattle.itinerary.specs.Known.{Climbable, Enough, Known, Parented, formRight, readingNumber, upFrom};
 
 // Byte k of record i, 0 where there is none; inner.
 pub fn byte_of(it: &[u8], i: u16, k: usize) -> u8
@@ -302,32 +302,30 @@ pub fn nearest(it: &[u8], i: u16, left: usize) -> u8
     nearest(it, above.parent, left - 2)
 }
 
-// Whether number i and all records above it are ambients, with at most left climbs; inner. Two records a call.
+// The number above an ambient, and i itself where it is none: the environment and what bars the way stay.
+fn up(it: &[u8], i: u16) -> u16
+    ensures { λ r. ⌜ r ≡ upFrom (now (it .entry)) i ⌝ }
+{
+    let r = record_at(it, i);
+    if r.kind == 1 { r.parent } else { i }
+}
+
+// Whether number i and all records above it are ambients, with at most left climbs; inner. Four climbs a call.
 pub fn ambients(it: &[u8], i: u16, left: usize) -> bool
     requires { ⌜ length (now it) % 8 ≡ 0 ⌝ }
     ensures { λ r. ⌜ r ≡ viewFrom standing (records (now (it .entry))) left i ⌝ }
 {
-    if i == 0 {
-        return true;
+    let r = record_at(it, i);
+    if r.kind != 1 {
+        return i == 0;
     }
     if left == 0 {
         return false;
     }
-    let r = record_at(it, i);
-    if r.kind != 1 {
-        return false;
+    if left < 4 {
+        return ambients(it, r.parent, left - 1);
     }
-    if r.parent == 0 {
-        return true;
-    }
-    if left == 1 {
-        return false;
-    }
-    let above = record_at(it, r.parent);
-    if above.kind == 1 {
-        return ambients(it, above.parent, left - 2);
-    }
-    false
+    ambients(it, up(it, up(it, up(it, r.parent))), left - 4)
 }
 
 // The container of record i; inner.
