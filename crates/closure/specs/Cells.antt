@@ -1,6 +1,7 @@
 -- The bits of a list of words as one set of numbers, and what `xs[i] |= v` does to it.
-use Prim.Native.Nat.{_%_, _*_, _+_, _/_, _<_, ℕ}
+use Prim.Native.Nat.{_%_, _*_, _+_, _/_, _<_, _^_, ℕ}
 use lib.Bits.{bitAnd, bitOr}
+use lib.Dec.{eqb}
 use lib.ListN.{getD, length, set}
 use lib.Seq.{getD-set-other, getD-set-same}
 use mathlib.Core.Bool.{_||_, true}
@@ -8,7 +9,7 @@ use mathlib.Core.List.{List}
 use mathlib.Core.Path.{_∙_, _≡_, ap, ap₂, sym}
 use native.Mathlib.Decide.{ℕ-discrete}
 use native.Mathlib.Omega.{arith}
-use Rattle.model.specs.Laws.Bit.{and-bit, or-bit}
+use Rattle.model.specs.Laws.Bit.{and-bit, one-shl, or-bit, pow-bit}
 use Rattle.model.specs.Laws.Checks.{and-make, or-cases, or-right}
 use Rattle.model.specs.Laws.WellFormed.{and-left, and-right}
 use Rattle.model.specs.Tables.{bitAt, testBit}
@@ -73,6 +74,10 @@ word-make i v u f j e t = let m : j ≡ 64 * i + j % 64 = omega arith in ap u m 
 pub word-use : (i v : ℕ) (u : Set) → Word 64 i v u → (x : ℕ) → testBit v x ≡ true → x < 64 → u (64 * i + x) ≡ true
 unfolding Word
 word-use i v u f x t h = let r : (64 * i + x) % 64 ≡ x = omega arith in f (64 * i + x) (omega arith) (ap (testBit v) r ∙ t)
+
+-- `1 << p` has bit p alone
+pub one-bit : (p x : ℕ) → p < 64 → testBit ((1 * 2 ^ p) % 2 ^ 64) x ≡ eqb x p
+one-bit p x h = ap (λ (y : ℕ). testBit y x) (one-shl p 64 h) ∙ pow-bit p x
 
 -- the bits of an `&`
 module _ (r c x : ℕ) where

@@ -1,100 +1,77 @@
 -- `closure::turn` meets its contract.
-use Prim.Native.Nat.{_*_}
-use borrow.Author.Needs.{needs}
-use lib.ListN.{getD}
-use mathlib.Core.Path.{_∙_, sym}
+use Prim.Native.Nat.{_*_, _-_, _≤_}
+use Rattle.closure.specs.Adds.{Adds, Turned, turn-end, turn-next, turn-none}
+use lib.ListN.{length}
+use mathlib.Core.Path.{_∙_, _≡_, refl}
+use native.Mathlib.Nat.{mul-le-mul-left}
 use native.Mathlib.Omega.{arith}
-use Rattle.closure.specs.Laws.{turn-in, turn-none, turn-open, turn-out}
 use Rattle.closure.proofs.turn.Statement.{statement}
 use Rattle.closure.proofs.turn.Tie as tie
 
-mul-r : tie.Need-mul-r
-mul-r c = search needs
+abbrev Inv-loop : tie.InvT-loop
+Inv-loop turned₀ w first step k₀ turned k = (length turned ≡ length turned₀) × (k ≤ 64) × Adds (Turned w first step k) (Turned w first step 64) turned₀ turned
 
-mul-r-2 : tie.Need-mul-r-2
-mul-r-2 c = search needs
+abbrev μ-loop : tie.MeasureT-loop
+μ-loop turned₀ w first step k₀ turned k = 64 - k
 
-slice-read-r : tie.Need-slice-read-r
-slice-read-r c = search needs
+loop-holds : tie.Need-loop-holds Inv-loop μ-loop
+loop-holds c = let a = c .before .before .args in (refl, omega arith, turn-none (a .w .now) (a .first) (a .step))
 
-enter-requires : tie.Need-enter-requires
-enter-requires c κs = search needs
+at-most : (c : tie.In-loop Inv-loop μ-loop) → c .before .before .before .before .args .step * c .before .loop .k ≤ c .before .before .before .before .args .step * 63
+at-most c = mul-le-mul-left (c .before .before .before .before .args .step) (omega arith)
 
-same-length : tie.Need-same-length
-same-length c = search needs
+mul-scatter : tie.Need-mul-scatter Inv-loop μ-loop
+mul-scatter c = let h = at-most (c .before) in omega arith
 
-returns : tie.Need-returns
-returns c =
-    let a = c .before .before .before .before .before .before .before .args in
-    let r = getD (a .w .now) (2 * a .x) 0 in
-    turn-in (a .kind) (a .holders) (a .partners) r (a .x) (c .before .before .before .before .if1 .taken) (c .before .before .enter .ensures)
+add-scatter : tie.Need-add-scatter Inv-loop μ-loop
+add-scatter c = let h = at-most (c .before) in omega arith
 
-bit-of-requires : tie.Need-bit-of-requires
-bit-of-requires c κs = search needs
+mul-scatter-2 : tie.Need-mul-scatter-2 Inv-loop μ-loop
+mul-scatter-2 c = let h = at-most (c .before) in omega arith
 
-leave-requires : tie.Need-leave-requires
-leave-requires c κs = search needs
+shared-slice-read-scatter : tie.Need-shared-slice-read-scatter Inv-loop μ-loop
+shared-slice-read-scatter c = let h = at-most (c .before .before) in omega arith
 
-same-length-2 : tie.Need-same-length-2
-same-length-2 c = search needs
+shl-scatter : tie.Need-shl-scatter Inv-loop μ-loop
+shl-scatter c = omega arith
 
-returns-2 : tie.Need-returns-2
-returns-2 c =
-    let a = c .before .before .before .before .before .before .before .before .before .before .args in
-    let r = getD (a .w .now) (2 * a .x) 0 in
-    turn-out (a .kind) (a .holders) (a .partners) r (a .x) (c .before .before .before .before .before .before .if2 .taken) (sym (c .before .before .before .before .before .bit-of .ensures) ∙ c .before .before .before .before .if3 .taken) (c .before .before .leave .ensures)
+scatter-requires : tie.Need-scatter-requires Inv-loop μ-loop
+scatter-requires c κs = omega arith
 
-returns-3 : tie.Need-returns-3
-returns-3 c =
-    let a = c .before .before .before .before .before .before .args in
-    let r = getD (a .w .now) (2 * a .x) 0 in
-    turn-none (a .kind) (a .holders) (a .partners) r (a .x) (c .before .before .before .if1 .left) (λ _. sym (c .before .bit-of .ensures) ∙ c .if3 .left) (λ e. let k = c .before .before .if2 .taken in absurd (omega arith))
+add-k : tie.Need-add-k Inv-loop μ-loop
+add-k c = omega arith
 
-bit-of-requires-2 : tie.Need-bit-of-requires-2
-bit-of-requires-2 c κs = search needs
+loop-less : tie.Need-loop-less Inv-loop μ-loop
+loop-less c = omega arith
 
-open-in-requires : tie.Need-open-in-requires
-open-in-requires c κs = search needs
+loop-again : tie.Need-loop-again Inv-loop μ-loop
+loop-again c =
+    let a = c .before .before .before .before .before .before .before .before .before .args in
+    let l = c .before .before .before .before .before .before .loop in
+    let q = c .before .before .scatter in
+    (q .kept .0 ∙ l .inv .0, omega arith, turn-next (a .w .now) (a .first) (a .step) (l .k) (omega arith) (l .inv .2) (q .ensures))
 
-same-length-3 : tie.Need-same-length-3
-same-length-3 c = search needs
+same-length : tie.Need-same-length Inv-loop μ-loop
+same-length c = c .before .loop .inv .0
 
-returns-4 : tie.Need-returns-4
-returns-4 c =
-    let a = c .before .before .before .before .before .before .before .before .before .before .before .args in
-    let r = getD (a .w .now) (2 * a .x) 0 in
-    turn-open (a .kind) (a .holders) (a .partners) r (a .x) (c .before .before .before .before .before .before .if4 .taken) (sym (c .before .before .before .before .before .bit-of2 .ensures) ∙ c .before .before .before .before .if5 .taken) (c .before .before .open-in .ensures)
-
-returns-5 : tie.Need-returns-5
-returns-5 c =
-    let a = c .before .before .before .before .before .before .before .args in
-    let r = getD (a .w .now) (2 * a .x) 0 in
-    turn-none (a .kind) (a .holders) (a .partners) r (a .x) (c .before .before .before .before .if1 .left) (λ e. absurd (c .before .before .before .if2 .left e)) (λ _. sym (c .before .bit-of2 .ensures) ∙ c .if5 .left)
-
-returns-6 : tie.Need-returns-6
-returns-6 c =
-    let a = c .before .before .before .before .before .args in
-    let r = getD (a .w .now) (2 * a .x) 0 in
-    turn-none (a .kind) (a .holders) (a .partners) r (a .x) (c .before .before .if1 .left) (λ e. absurd (c .before .if2 .left e)) (λ e. absurd (c .if4 .left e))
+returns : tie.Need-returns Inv-loop μ-loop
+returns c = let a = c .before .before .before .before .args in turn-end (a .w .now) (a .first) (a .step) (c .before .loop .k) (omega arith) (c .before .loop .inv .2)
 
 pub turn-spec : {M : Type 1} → statement M
 turn-spec =
     tie.close
     (tie.spec
-    mul-r
-    mul-r-2
-    slice-read-r
-    enter-requires
+    Inv-loop
+    μ-loop
+    loop-holds
+    mul-scatter
+    add-scatter
+    mul-scatter-2
+    shared-slice-read-scatter
+    shl-scatter
+    scatter-requires
+    add-k
+    loop-less
+    loop-again
     same-length
-    returns
-    bit-of-requires
-    leave-requires
-    same-length-2
-    returns-2
-    returns-3
-    bit-of-requires-2
-    open-in-requires
-    same-length-3
-    returns-4
-    returns-5
-    returns-6)
+    returns)
