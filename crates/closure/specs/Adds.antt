@@ -1,13 +1,13 @@
 -- Bits added to a list of words, as a loop adds them.
 use Prim.Native.Nat.{_%_, _*_, _+_, _-_, _/_, _<_, _^_, ℕ}
 use borrow.Author.Tests.{eq-eqb, eqb-true}
-use lib.Bits.{bitAnd, bitOr}
+use lib.Bits.{bitAnd}
 use lib.ListN.{getD, length}
 use lib.Seq.{getD-set-other, getD-set-same}
 use mathlib.Core.Bool.{_||_, true, true≢false}
 use mathlib.Core.List.{List}
 use mathlib.Core.Logic.{_⊎_, inl, inr, ⊎-elim}
-use mathlib.Core.Path.{_∙_, _≡_, ap, ap₂, refl, subst, sym}
+use mathlib.Core.Path.{_∙_, _≡_, ap, ap₂, subst, sym}
 use native.Mathlib.Decide.{ℕ-discrete}
 use native.Mathlib.Nat.{zero-add}
 use native.Mathlib.Omega.{arith}

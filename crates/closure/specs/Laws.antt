@@ -1,17 +1,16 @@
 -- The rules of movers for one pair, for a row, and for all rows by passes that leave out what has not changed.
 use Prim.Native.Nat.{_%_, _*_, _+_, _-_, _/_, _<_, _^_, ℕ}
-use borrow.Author.Tests.{eq-eqb, eqb-true}
+use borrow.Author.Tests.{eq-eqb}
 use lib.Bits.{bitAnd, bitOr}
-use lib.ListN.{getD, length}
-use mathlib.Core.Bool.{Bool, _||_, false, true, true≢false}
+use lib.ListN.{getD}
+use mathlib.Core.Bool.{false, true, true≢false}
 use mathlib.Core.List.{List}
 use mathlib.Core.Logic.{_⊎_, inl, inr, ⊎-elim}
 use mathlib.Core.Path.{_∙_, _≡_, ap, fun-ext, refl, subst, sym}
 use native.Mathlib.Decide.{decLt, ℕ-discrete}
-use native.Mathlib.Nat.{eq-or-lt-of-le, le-of-suc-le-suc, not-suc-le-zero}
-use native.Mathlib.Numerals.{add-one}
+use native.Mathlib.Nat.{not-suc-le-zero}
 use native.Mathlib.Omega.{arith}
-use Rattle.closure.specs.Cells.{Bits, Word, and-in, and-l, and-r, at-word, one-bit, word-make, word-use}
+use Rattle.closure.specs.Cells.{Bits, Word, and-in, and-l, and-r, at-word, last-or, never, one-bit, word-make, word-use}
 use Rattle.closure.specs.Lowest.{Lowest}
 use Rattle.closure.specs.Marks.{Marked, marked-none, marked-then}
 use Rattle.closure.specs.Rules.{I, Nests, Row, Rows}
@@ -22,9 +21,6 @@ use Rattle.model.specs.Laws.Finite.{every-use}
 use Rattle.model.specs.Tables.{bitAt, testBit}
 use Rattle.tables.specs.Bit.{is-false, or-left}
 use Rattle.tables.specs.Grow.{Grown, Inside, Set, Smallest, any, chain, grown-none, recast}
-
-never : {C : Type 0} (b : Bool) → b ≡ true → b ≡ false → C
-never b p q = absurd (true≢false (sym p ∙ q))
 
 -- row k, as words 2 k and 2 k + 1
 pub row-lo : (k x : ℕ) → 128 * k + x ≡ 64 * (2 * k) + x
@@ -257,16 +253,13 @@ module _ (m w₀ : List ℕ) (before : ℕ) where
   }
 
   module _ (w : List ℕ) (now p : ℕ) (h : p < 64) (P : Passing m w₀ w before now p) where
-    next-or : (q : ℕ) → q < p + 1 → (q ≡ p) ⊎ (q < p)
-    next-or q l = eq-or-lt-of-le (le-of-suc-le-suc (subst (λ (y : ℕ). q < y) (add-one p) l))
-
     pub pass-visit : (w′ : List ℕ) (c : ℕ) → Grown (Row m p) (Row m p) (Bits w) (Bits w′) → Marked (Reads w′ p) w w′ c → Passing m w₀ w′ before (bitOr now c) (p + 1)
     unfolding Rows any
     pass-visit w′ c g M = record {
       grown = chain (P .grown) g (λ u i f. f p h) (λ _ _ _. tt);
       marked = marked-then (P .marked) M (λ x _. tt) (λ x _. tt);
       fresh = λ q l n. ⊎-elim (λ e. subst (λ (y : ℕ). Owed m w′ (bitOr now c) y) (sym e) (owed-here m w w′ p c (bitOr now c) M g (λ x t. or-some now c x (inr t))))
-          (λ n. owed-on m w w′ c M q now (bitOr now c) l (λ x t. or-some now c x (inl t)) (λ x t. or-some now c x (inr t)) (P .fresh q l n)) (next-or q n);
+          (λ n. owed-on m w w′ c M q now (bitOr now c) l (λ x t. or-some now c x (inl t)) (λ x t. or-some now c x (inr t)) (P .fresh q l n)) (last-or q p n);
       stale = λ q l. owed-on m w w′ c M q (bitOr before now) (bitOr before (bitOr now c)) l
           (λ x t. or-cases (testBit before x) (testBit now x) (sym (or-bit before now x) ∙ t) (λ s. or-some before (bitOr now c) x (inl s)) (λ s. or-some before (bitOr now c) x (inr (or-some now c x (inl s)))))
           (λ x t. or-some before (bitOr now c) x (inr (or-some now c x (inr t)))) (P .stale q l);
@@ -278,7 +271,7 @@ module _ (m w₀ : List ℕ) (before : ℕ) where
     pass-skip e = record {
       grown = P .grown;
       marked = P .marked;
-      fresh = λ q l n. ⊎-elim (λ d _. subst (λ (y : ℕ). Row m y (Bits w)) (sym d) (P .stale p h quiet)) (λ n. P .fresh q l n) (next-or q n);
+      fresh = λ q l n. ⊎-elim (λ d _. subst (λ (y : ℕ). Row m y (Bits w)) (sym d) (P .stale p h quiet)) (λ n. P .fresh q l n) (last-or q p n);
       stale = P .stale;
     }
       where

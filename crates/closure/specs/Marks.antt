@@ -2,17 +2,16 @@
 use Prim.Native.Nat.{_%_, _*_, _+_, _/_, _<_, _^_, _≤_, ℕ}
 use borrow.Author.Tests.{eq-eqb, eqb-true}
 use lib.Bits.{bitOr, or-lt}
-use lib.Dec.{eqb}
 use lib.ListN.{getD, length, length-set}
 use lib.Seq.{getD-set-other, getD-set-same}
-use mathlib.Core.Bool.{Bool, _||_, false, true, true≢false}
+use mathlib.Core.Bool.{false, true}
 use mathlib.Core.List.{List}
 use mathlib.Core.Logic.{_⊎_, inl, inr, ⊎-elim}
 use mathlib.Core.Path.{_∙_, _≡_, ap, ap₂, refl, subst, sym}
 use native.Mathlib.Decide.{decLt, ℕ-discrete}
 use native.Mathlib.Nat.{le-refl}
 use native.Mathlib.Omega.{arith}
-use Rattle.closure.specs.Cells.{Bits, Word, at-word, one-bit, or-word, orAt, word-make}
+use Rattle.closure.specs.Cells.{Bits, Word, at-word, never, one-bit, or-word, orAt, word-make}
 use Rattle.closure.specs.Total.{Less, less-bits}
 use Rattle.model.specs.Laws.Bit.{or-bit, zero-bit}
 use Rattle.model.specs.Laws.Checks.{or-cases, or-right}
@@ -27,9 +26,6 @@ pub record Marked (R : ℕ → Type 0) (w w′ : List ℕ) (c : ℕ) : Type 0 wh
   pub rest : (i : ℕ) → testBit c (i / 2) ≡ false → getD w′ i 0 ≡ getD w i 0
   pub le : total w ≤ total w′
   pub more : (c ≡ 0) ⊎ (total w < total w′)
-
-never : {C : Type 0} (b : Bool) → b ≡ true → b ≡ false → C
-never b p q = absurd (true≢false (sym p ∙ q))
 
 pub marked-none : {R : ℕ → Type 0} {w : List ℕ} → Marked R w w 0
 marked-none {w = w} = record { among = λ x t. never _ t (zero-bit x); rest = λ i d. refl; le = le-refl (total w); more = inl refl }

@@ -10,7 +10,7 @@ use Rattle.closure.specs.Rules.{Closed, Complete, I, Moves, Row, Rows, S
 use Rattle.closure.specs.Total.{held, held-less}
 use Rattle.model.specs.Laws.Sets.{Narrow}
 use Rattle.model.specs.Tables.{bitAt, testBit}
-use Rattle.tables.specs.Grow.{Grown, Inside, Set, Smallest, any, chain}
+use Rattle.tables.specs.Grow.{Grown, Inside, Set, Smallest, any}
 
 -- from s to s′ by the rules of I; m has the movers of s′
 pub record Nested (partners m : List ℕ) (s s′ : Set) : Type 0 where

@@ -4,26 +4,22 @@ use borrow.Author.Tests.{eq-eqb, eqb-true}
 use lib.Bits.{bitAnd, bitOr, bitXor}
 use lib.ListN.{getD, length, set}
 use lib.Seq.{getD-set-other, getD-set-same}
-use mathlib.Core.Bool.{Bool, false, true, true≢false}
+use mathlib.Core.Bool.{false, true}
 use mathlib.Core.List.{List}
 use mathlib.Core.Logic.{_⊎_, inl, inr, ⊎-elim}
 use mathlib.Core.Path.{_∙_, _≡_, ap, refl, subst, sym}
 use native.Mathlib.Decide.{ℕ-discrete}
-use native.Mathlib.Nat.{eq-or-lt-of-le, le-of-suc-le-suc, not-suc-le-zero}
-use native.Mathlib.Numerals.{add-one}
+use native.Mathlib.Nat.{not-suc-le-zero}
 use native.Mathlib.Omega.{arith}
-use Rattle.closure.specs.Cells.{Bits, and-in, and-l, and-r, at-word, one-bit}
+use Rattle.closure.specs.Cells.{Bits, and-in, and-l, and-r, last-or, never, one-bit, suspect-bit}
 use Rattle.closure.specs.Laws.{all-bits, bit-lo, or-some}
 use Rattle.closure.specs.Lowest.{xor-other}
-use Rattle.closure.specs.Rules.{Closed, Complete, I, Rows, Row, S, Sound, Suspects, Taints, closed-rows, closed-suspects, movers-closed, sound-on}
+use Rattle.closure.specs.Rules.{I, S, Suspects, Taints}
 use Rattle.model.specs.Laws.Bit.{or-bit, zero-bit}
 use Rattle.model.specs.Laws.Checks.{or-cases}
 use Rattle.model.specs.Tables.{bitAt, testBit}
 use Rattle.tables.specs.Bit.{is-false}
-use Rattle.tables.specs.Grow.{Grown, Inside, Set, Smallest, any, chain}
-
-never : {C : Type 0} (b : Bool) → b ≡ true → b ≡ false → C
-never b p q = absurd (true≢false (sym p ∙ q))
+use Rattle.tables.specs.Grow.{Inside, Set, Smallest}
 
 -- ---- what a suspect b makes suspect
 
@@ -51,21 +47,18 @@ module _ (w m : List ℕ) (b : ℕ) where
   more c = record { p = c .p; below = (let l = c .below in omega arith); stands = c .stands; by = c .by }
 
   module _ (n r : ℕ) (f : Infects w m b n r) where
-    last : {x : ℕ} (c : Caused w m b (n + 1) x) → (c .p ≡ n) ⊎ (c .p < n)
-    last c = eq-or-lt-of-le (le-of-suc-le-suc (subst (λ (y : ℕ). c .p < y) (add-one n) (c .below)))
-
     before : {x : ℕ} (c : Caused w m b (n + 1) x) → c .p < n → Caused w m b n x
     before c l = record { p = c .p; below = l; stands = c .stands; by = c .by }
 
     pub infects-no : testBit (getD w (2 * n) 0) b ≡ false → Infects w m b (n + 1) r
     infects-no d = record {
-      has = λ x c. ⊎-elim (λ e. never _ (ap (λ (y : ℕ). testBit (getD w (2 * y) 0) b) (sym e) ∙ c .stands) d) (λ l. f .has x (before c l)) (last c);
+      has = λ x c. ⊎-elim (λ e. never _ (ap (λ (y : ℕ). testBit (getD w (2 * y) 0) b) (sym e) ∙ c .stands) d) (λ l. f .has x (before c l)) (last-or (c .p) n (c .below));
       only = λ x t. more (f .only x t);
     }
 
     pub infects-yes : testBit (getD w (2 * n) 0) b ≡ true → Infects w m b (n + 1) (bitOr r (caused w m b n))
     infects-yes s = record {
-      has = λ x c. or-some r (caused w m b n) x (⊎-elim (λ e. inr (ap (λ (y : ℕ). testBit (caused w m b y) x) (sym e) ∙ c .by)) (λ l. inl (f .has x (before c l))) (last c));
+      has = λ x c. or-some r (caused w m b n) x (⊎-elim (λ e. inr (ap (λ (y : ℕ). testBit (caused w m b y) x) (sym e) ∙ c .by)) (λ l. inl (f .has x (before c l))) (last-or (c .p) n (c .below)));
       only = λ x t. or-cases (testBit r x) (testBit (caused w m b n) x) (sym (or-bit r (caused w m b n) x) ∙ t) (λ v. more (f .only x v))
           (λ v. record { p = n; below = omega arith; stands = s; by = v });
     }
@@ -104,9 +97,6 @@ module _ (w m : List ℕ) (p b : ℕ) (hp : p < 64) (hb : b < 64) where
 
 -- ---- S: each suspect is taken once
 
-suspect : (w : List ℕ) (k : ℕ) → k < 64 → Bits w (12288 + k) ≡ testBit (getD w 192 0) k
-suspect w k h = at-word w 192 k (12288 + k) h refl
-
 -- s are the suspects found, and those that are not in left have been taken
 pub record Spreading (m w : List ℕ) (s left : ℕ) : Type 0 where
   pub keeps : (x : ℕ) → testBit (getD w 192 0) x ≡ true → testBit s x ≡ true
@@ -115,7 +105,7 @@ pub record Spreading (m w : List ℕ) (s left : ℕ) : Type 0 where
 
 module _ (m w : List ℕ) where
   pub spread-none : Spreading m w (getD w 192 0) 18446744073709551615
-  spread-none = record { keeps = λ x t. t; inside = λ u i f x h t. i (12288 + x) (suspect w x h ∙ t); taken = λ b h d. never _ (all-bits b h) d }
+  spread-none = record { keeps = λ x t. t; inside = λ u i f x h t. i (12288 + x) (suspect-bit w x h ∙ t); taken = λ b h d. never _ (all-bits b h) d }
 
   pub spread-next : (s left b r : ℕ) → Spreading m w s left → b < 64 → testBit (bitAnd s left) b ≡ true → Infects w m b 64 r → Spreading m w (bitOr s r) (bitXor left ((1 * 2 ^ b) % 2 ^ 64))
   unfolding Suspects
@@ -139,7 +129,7 @@ module _ (m w : List ℕ) where
     spread-same i h = getD-set-other w 192 i s 0 (λ e. omega arith)
 
     after : (x : ℕ) → x < 64 → Bits w′ (12288 + x) ≡ testBit s x
-    after x h = suspect w′ x h ∙ ap (λ (y : ℕ). testBit y x) (getD-set-same w 192 s 0 l)
+    after x h = suspect-bit w′ x h ∙ ap (λ (y : ℕ). testBit y x) (getD-set-same w 192 s 0 l)
 
     back : (r x : ℕ) → r < 64 → x < 64 → I (Bits w′) r x → testBit (getD w (2 * r) 0) x ≡ true
     back r x hr h t = ap (λ (y : ℕ). testBit y x) (sym (spread-same (2 * r) (omega arith))) ∙ sym (bit-lo w′ r x h) ∙ t

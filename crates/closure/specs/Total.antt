@@ -7,7 +7,7 @@ use lib.Seq.{drop-cons, drop-length}
 use mathlib.Core.Bool.{true, true≢false}
 use mathlib.Core.List.{List, [], _∷_}
 use mathlib.Core.Logic.{⊎-elim}
-use mathlib.Core.Path.{_∙_, _≡_, ap, ap₂, refl, subst, sym}
+use mathlib.Core.Path.{_∙_, _≡_, ap, ap₂, refl, sym}
 use native.Mathlib.Decide.{decLt}
 use native.Mathlib.Nat.{eq-or-lt-of-le, le-of-suc-le-suc, le-refl, not-suc-le-zero, suc-inj, suc-mul, suc-ne-zero}
 use native.Mathlib.Numerals.{add-one}

@@ -9,10 +9,10 @@ use mathlib.Core.Bool.{Bool, false, true, true≢false}
 use mathlib.Core.List.{List}
 use mathlib.Core.Logic.{inl, inr}
 use mathlib.Core.Path.{_∙_, _≡_, ap, ap₂, refl, subst, sym}
-use native.Mathlib.Decide.{decLt, ℕ-discrete}
+use native.Mathlib.Decide.{ℕ-discrete}
 use native.Mathlib.Omega.{arith}
 use Rattle.closure.specs.Adds.{Adds, clear-sound, moves-complete, moves-sound}
-use Rattle.closure.specs.Cells.{Bits, and-in, and-l, and-r, at-word}
+use Rattle.closure.specs.Cells.{Bits, and-in, and-l, and-r, below-64, suspect-bit}
 use Rattle.closure.specs.Laws.{bit-lo, or-some}
 use Rattle.closure.specs.Lowest.{Lowest}
 use Rattle.closure.specs.Rules.{Closed, Complete, Decides, Moves, Row, Rows, Sound, Suspects, closed-rows, closed-suspects, movers-closed}
@@ -20,7 +20,7 @@ use Rattle.holding.specs.Tests.{Moving, Opening, Pair, PairsAt, Within, 
 use Rattle.model.specs.Analysis.{free, holds, onlyIf}
 use Rattle.model.specs.Climbing.{container}
 use Rattle.model.specs.Finite.{every}
-use Rattle.model.specs.Laws.Bit.{high-bit, or-bit, or-same, same-or, zero-bit}
+use Rattle.model.specs.Laws.Bit.{or-bit, or-same, same-or, zero-bit}
 use Rattle.model.specs.Laws.Bytes.{length-records, valid-wf}
 use Rattle.model.specs.Laws.Checks.{and-make, bool-iff, onlyIf-make, onlyIf-use, or-cases}
 use Rattle.model.specs.Laws.Done.{cap-alive}
@@ -229,14 +229,7 @@ module _ (w m : List ℕ) (p b : ℕ) (n : Narrow 64 w) (hp : p < 64) (hb : b < 
   leave = getD m (64 + b) 0
 
   low : (i k : ℕ) → testBit (getD w i 0) k ≡ true → k < 64
-  low i k t = go (decLt k 64)
-    where
-      go : Dec (k < 64) → k < 64
-      go (yes l) = l
-      go (no d) = absurd (true≢false (sym t ∙ high-bit (getD w i 0) k 64 (n i) (omega arith)))
-
-  suspect : (k : ℕ) → k < 64 → Bits w (12288 + k) ≡ testBit (getD w 192 0) k
-  suspect k h = at-word w 192 k (12288 + k) h refl
+  low i k t = below-64 (getD w i 0) k (n i) t
 
   abbrev Held : Type 0
   Held = Moving m p b (Bits w)
@@ -252,17 +245,17 @@ module _ (w m : List ℕ) (p b : ℕ) (n : Narrow 64 w) (hp : p < 64) (hb : b < 
   pub moves-suspect : testBit (getD w 192 0) b ≡ true → Held → Within (bitOr (bitAnd here enter) (bitAnd there leave)) (getD w 192 0)
   unfolding Within
   moves-suspect s f k t = or-cases (testBit (bitAnd here enter) k) (testBit (bitAnd there leave) k) (sym (or-bit (bitAnd here enter) (bitAnd there leave) k) ∙ t)
-      (λ v. let h = low (2 * p) k (and-l here enter k v) in sym (suspect k h) ∙ f .ins k h (and-r here enter k v) (bit-lo w p k h ∙ and-l here enter k v) .1 (suspect b hb ∙ s))
-      (λ v. let h = low (2 * b) k (and-l there leave k v) in sym (suspect k h) ∙ f .outs k h (and-r there leave k v) (bit-lo w b k h ∙ and-l there leave k v) .1 (suspect b hb ∙ s))
+      (λ v. let h = low (2 * p) k (and-l here enter k v) in sym (suspect-bit w k h) ∙ f .ins k h (and-r here enter k v) (bit-lo w p k h ∙ and-l here enter k v) .1 (suspect-bit w b hb ∙ s))
+      (λ v. let h = low (2 * b) k (and-l there leave k v) in sym (suspect-bit w k h) ∙ f .outs k h (and-r there leave k v) (bit-lo w b k h ∙ and-l there leave k v) .1 (suspect-bit w b hb ∙ s))
 
   pub moves-make : Within (bitAnd here enter) there → Within (bitAnd there leave) here →
       (testBit (getD w 192 0) b ≡ true → Within (bitOr (bitAnd here enter) (bitAnd there leave)) (getD w 192 0)) → Held
   unfolding Within
   moves-make i o s = record {
     ins = λ a h t q. let v = and-in here enter a (sym (bit-lo w p a h) ∙ q) t in
-        (bit-lo w b a h ∙ i a v, λ sb. suspect a h ∙ s (sym (suspect b hb) ∙ sb) a (or-some (bitAnd here enter) (bitAnd there leave) a (inl v)));
+        (bit-lo w b a h ∙ i a v, λ sb. suspect-bit w a h ∙ s (sym (suspect-bit w b hb) ∙ sb) a (or-some (bitAnd here enter) (bitAnd there leave) a (inl v)));
     outs = λ a h t q. let v = and-in there leave a (sym (bit-lo w b a h) ∙ q) t in
-        (bit-lo w p a h ∙ o a v, λ sb. suspect a h ∙ s (sym (suspect b hb) ∙ sb) a (or-some (bitAnd here enter) (bitAnd there leave) a (inr v)));
+        (bit-lo w p a h ∙ o a v, λ sb. suspect-bit w a h ∙ s (sym (suspect-bit w b hb) ∙ sb) a (or-some (bitAnd here enter) (bitAnd there leave) a (inr v)));
   }
 
 -- ---- a pair, and a row

@@ -350,7 +350,14 @@ pub fn container_of(it: &[u8], i: u16) -> u8
     ensures { λ r. ⌜ r ≡ container (records (now (it .entry))) i ⌝ }
 {
     let r = record_at(it, i);
-    nearest(it, r.parent, it.len() / 8 + 1)
+    if r.parent == 0 {
+        return 0;
+    }
+    let above = record_at(it, r.parent);
+    if above.kind == 1 {
+        return above.label;
+    }
+    nearest(it, above.parent, it.len() / 8)
 }
 
 // The container of a record, after refusals 1 to 6; 0 for number 0, over the count or a gone record.

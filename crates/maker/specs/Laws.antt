@@ -1,5 +1,5 @@
 -- Bits set one by one in a table of bytes, a part of it lent on, and the least table.
-use Prim.Native.Nat.{_%_, _*_, _+_, _-_, _/_, _<_, _^_, _≤_, ℕ}
+use Prim.Native.Nat.{_%_, _*_, _+_, _-_, _/_, _<_, _^_, ℕ}
 use borrow.Author.Tests.{eq-eqb, eqb-true, le-leb, le-ltb, lt-leb, lt-ltb}
 use lib.Dec.{leb, ltb}
 use lib.ListN.{List·getD-append, List·getD-eq-default, drop, getD, length, length-drop, length-take, take}
@@ -9,10 +9,9 @@ use mathlib.Core.List.{List, _++_}
 use mathlib.Core.Logic.{⊎-elim}
 use mathlib.Core.Path.{_∙_, _≡_, ap, ap₂, refl, subst, subst₂, sym}
 use native.Mathlib.Decide.{decLt}
-use native.Mathlib.Nat.{eq-or-lt-of-le, le-of-eq, le-of-suc-le-suc, le-trans, min-le-left}
-use native.Mathlib.Numerals.{add-one}
+use native.Mathlib.Nat.{le-of-eq, le-trans, min-le-left}
 use native.Mathlib.Omega.{arith}
-use Rattle.closure.specs.Cells.{Bits, Word, or-has, or-word, orAt}
+use Rattle.closure.specs.Cells.{Bits, Word, last-or, or-has, or-word, orAt}
 use Rattle.closure.specs.Rules.{Closed}
 use Rattle.maker.specs.Facts.{Based, Closes, Filled}
 use Rattle.model.specs.Analysis.{free}
@@ -58,9 +57,6 @@ module _ (test : ℕ → Bool) (cell : ℕ → ℕ) where
   unfolding Wanted
   filled-none = record { keeps = λ j t. t; inside = λ u i f. i; closed = λ x l. absurd (omega arith) }
 
-  last : (x n : ℕ) {A : Type 0} → x < n + 1 → (x ≡ n → A) → (x < n → A) → A
-  last x n l f g = ⊎-elim f g (eq-or-lt-of-le (le-of-suc-le-suc (subst (λ (y : ℕ). x < y) (add-one n) l)))
-
   -- t is the table so far, and t′ that with bit j, which is the cell of n
   pub filled-yes : (n : ℕ) {s : Set} (t t′ : List ℕ) (j : ℕ) → test n ≡ true → j ≡ cell n → j / 8 < length t → t′ ≡ orAt t (j / 8) (2 ^ (j % 8)) →
       Filled test cell n s (bits t) → Filled test cell (n + 1) s (bits t′)
@@ -68,7 +64,7 @@ module _ (test : ℕ → Bool) (cell : ℕ → ℕ) where
   filled-yes n {s} t t′ j c q h e g = subst (λ (x : List ℕ). Filled test cell (n + 1) s (bits x)) (sym e) (record {
     keeps = λ j t. a .keeps j (g .keeps j t);
     inside = λ u i f. let k : Inside (bits t) u = g .inside u i (λ x l. f x (omega arith)) in a .inside u k (ap u q ∙ f n (omega arith) c);
-    closed = λ x l d. last x n l (λ p. ap (bits (orAt t (j / 8) (2 ^ (j % 8)))) (ap cell p ∙ sym q) ∙ a .closed) (λ m. a .keeps (cell x) (g .closed x m d));
+    closed = λ x l d. ⊎-elim (λ p. ap (bits (orAt t (j / 8) (2 ^ (j % 8)))) (ap cell p ∙ sym q) ∙ a .closed) (λ m. a .keeps (cell x) (g .closed x m d)) (last-or x n l);
   })
     where
       a : Smallest (λ u. u j ≡ true) (bits t) (bits (orAt t (j / 8) (2 ^ (j % 8))))
@@ -79,7 +75,7 @@ module _ (test : ℕ → Bool) (cell : ℕ → ℕ) where
   filled-no n c g = record {
     keeps = g .keeps;
     inside = λ u i f. g .inside u i (λ x l. f x (omega arith));
-    closed = λ x l d. last x n l (λ e. absurd (true≢false (sym d ∙ ap test e ∙ c))) (λ m. g .closed x m d);
+    closed = λ x l d. ⊎-elim (λ e. absurd (true≢false (sym d ∙ ap test e ∙ c))) (λ m. g .closed x m d) (last-or x n l);
   }
 
 -- a list whose first n numbers, all it has, are 0

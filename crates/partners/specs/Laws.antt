@@ -8,13 +8,13 @@ use mathlib.Core.List.{List}
 use mathlib.Core.Logic.{⊎-elim}
 use mathlib.Core.Option.{some}
 use mathlib.Core.Path.{_∙_, _≡_, ap, refl, subst, sym}
-use native.Mathlib.Decide.{decLt, ℕ-discrete}
+use native.Mathlib.Decide.{ℕ-discrete}
 use native.Mathlib.Omega.{arith}
 use Rattle.closure.specs.Adds.{Adds, Turned, adds-as, adds-none, adds-or, turned-bit}
-use Rattle.closure.specs.Cells.{Bits, at-word, orAt}
+use Rattle.closure.specs.Cells.{Bits, at-word, below-64, orAt}
 use Rattle.closure.specs.Rules.{Closed}
 use Rattle.model.specs.Analysis.{free}
-use Rattle.model.specs.Laws.Bit.{high-bit, zero-bit}
+use Rattle.model.specs.Laws.Bit.{zero-bit}
 use Rattle.model.specs.Laws.Bytes.{at-decode, shape-kind, valid-wf}
 use Rattle.model.specs.Laws.Checks.{and-make}
 use Rattle.model.specs.Laws.Holding.{Rule}
@@ -73,11 +73,7 @@ aim-none H r p h = adds-none (λ i b a. let k = a .capable in omega arith)
 
 pub aim-one : (bearers : List ℕ) (r : Rec) (p : List ℕ) → Narrow 64 bearers → 2 ≤ r .kind → slot r < length p → Aimed (borne bearers) r p (orAt p (slot r) (getD bearers (r .name) 0))
 aim-one bearers r p h k l = adds-as (adds-or p (slot r) (getD bearers (r .name) 0) l) (λ i b a. (sym (a .here), a .names))
-    (λ i b a. record { capable = k; here = sym (a .0); below = go b (a .1) (decLt b 64); names = a .1 })
-  where
-    go : (b : ℕ) → testBit (getD bearers (r .name) 0) b ≡ true → Dec (b < 64) → b < 64
-    go b t (yes l) = l
-    go b t (no d) = absurd (true≢false (sym t ∙ high-bit (getD bearers (r .name) 0) b 64 (h (r .name)) (omega arith)))
+    (λ i b a. record { capable = k; here = sym (a .0); below = below-64 (getD bearers (r .name) 0) b (h (r .name)) (a .1); names = a .1 })
 
 -- ---- all records
 

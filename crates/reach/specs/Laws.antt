@@ -3,10 +3,10 @@ use Prim.Native.Nat.{_*_, _+_, _<_, _≤_, suc, suc-le-suc, zero, ℕ}
 use borrow.Author.Tests.{eqb-false, ne-eqb, not-true}
 use lib.ListN.{drop, getD, length, replicate, set}
 use lib.Seq.{drop-cons, drop-length, getD-set-other, getD-set-same}
-use mathlib.Core.Bool.{Bool, _&&_, false, not, true, true≢false}
+use mathlib.Core.Bool.{Bool, _&&_, _||_, false, not, true, true≢false}
 use mathlib.Core.List.{List, [], _∷_}
 use mathlib.Core.Option.{Option}
-use mathlib.Core.Path.{_∙_, _≡_, ap, ap₂, refl, sym}
+use mathlib.Core.Path.{_∙_, _≡_, ap, ap₂, fun-ext, refl, subst, sym}
 use native.Mathlib.Decide.{ℕ-discrete}
 use native.Mathlib.Nat.{le-of-suc-le-suc, le-refl, le-step, le-trans, not-suc-le-self, suc-inj, suc-ne-zero}
 use native.Mathlib.Numerals.{add-one}
@@ -42,18 +42,31 @@ set-true q k h = record {
     ins u s c j (yes e) t = ap u e ∙ c
     ins u s c j (no d) t = s j (sym (getD-set-other q k j true false d) ∙ t)
 
+set-same : (q : List Bool) (k : ℕ) → k < length q → marked (set q k (getD q k false)) ≡ marked q
+unfolding marked
+set-same q k h = fun-ext (λ j. go j (ℕ-discrete j k))
+  where
+    go : (j : ℕ) → Dec (j ≡ k) → getD (set q k (getD q k false)) j false ≡ getD q j false
+    go j (yes e) = ap (λ (x : ℕ). getD (set q k (getD q k false)) x false) e ∙ getD-set-same q k _ false h ∙ ap (λ (x : ℕ). getD q x false) (sym e)
+    go j (no d) = getD-set-other q k j _ false d
+
 -- ---- a row
 
 abbrev pub RowAt : Set → ℕ → ℕ → Set → Type 0
 RowAt t x k u = t (128 * x + k) ≡ true → u k ≡ true
 
 module _ (t : Set) (x k : ℕ) {s : Set} where
-  pub row-yes : (q : List Bool) → k < 64 → k < length q → t (128 * x + k) ≡ true → Grown (Row t x) (Below (RowAt t x) k) s (marked q) → Grown (Row t x) (Below (RowAt t x) (k + 1)) s (marked (set q k true))
+  row-yes : (q : List Bool) → k < 64 → k < length q → t (128 * x + k) ≡ true → Grown (Row t x) (Below (RowAt t x) k) s (marked q) → Grown (Row t x) (Below (RowAt t x) (k + 1)) s (marked (set q k true))
   unfolding Row
   row-yes q h l e g = loop-next (RowAt t x) k g (set-true q k l) (λ u i c. c k h e) (λ _ r _. r)
 
-  pub row-no : {s₁ : Set} → t (128 * x + k) ≡ false → Grown (Row t x) (Below (RowAt t x) k) s s₁ → Grown (Row t x) (Below (RowAt t x) (k + 1)) s s₁
+  row-no : {s₁ : Set} → t (128 * x + k) ≡ false → Grown (Row t x) (Below (RowAt t x) k) s s₁ → Grown (Row t x) (Below (RowAt t x) (k + 1)) s s₁
   row-no e g = loop-skip (RowAt t x) k g (λ _ q. absurd (true≢false (sym q ∙ e)))
+
+  -- `q[k] = b | q[k]`
+  pub row-next : (b : Bool) (q : List Bool) → k < 64 → k < length q → b ≡ t (128 * x + k) → Grown (Row t x) (Below (RowAt t x) k) s (marked q) → Grown (Row t x) (Below (RowAt t x) (k + 1)) s (marked (set q k (b || getD q k false)))
+  row-next true q h l e g = row-yes q h l (sym e) g
+  row-next false q h l e g = subst (λ (u : Set). Grown (Row t x) (Below (RowAt t x) (k + 1)) s u) (sym (set-same q k l)) (row-no (sym e) g)
 
   pub row-end : {s₁ : Set} → k ≡ 64 → Grown (Row t x) (Below (RowAt t x) k) s s₁ → Grown (Row t x) (Row t x) s s₁
   unfolding Row Below

@@ -2,7 +2,6 @@
 use Rattle.closure.specs.Adds.{folded-moves}
 use Rattle.itinerary.specs.Laws.{getD-zero}
 use borrow.Author.Needs.{needs}
-use mathlib.Core.Path.{_∙_}
 use Rattle.closure.proofs.add_movers.Statement.{statement}
 use Rattle.closure.proofs.add_movers.Tie as tie
 

@@ -1,5 +1,5 @@
 -- `closure::grow` meets its contract.
-use Prim.Native.Nat.{_-_, _≤_}
+use Prim.Native.Nat.{_-_}
 use Rattle.closure.specs.Adds.{clear-sound}
 use Rattle.closure.specs.Cells.{Bits}
 use Rattle.closure.specs.Rounds.{round-end, round-on, round-sound}
@@ -8,7 +8,7 @@ use Rattle.closure.specs.Total.{held, held-le, held-less}
 use Rattle.model.specs.Laws.Sets.{Narrow}
 use Rattle.tables.specs.Grow.{Grown, any, start}
 use lib.ListN.{length}
-use mathlib.Core.Path.{_∙_, _≡_, refl, sym}
+use mathlib.Core.Path.{_∙_, _≡_, refl}
 use native.Mathlib.Omega.{arith}
 use Rattle.closure.proofs.grow.Statement.{statement}
 use Rattle.closure.proofs.grow.Tie as tie

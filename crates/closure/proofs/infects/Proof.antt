@@ -2,7 +2,7 @@
 use Prim.Native.Nat.{_+_, _-_, _≤_, ℕ}
 use Rattle.closure.specs.Spread.{Infects, caused, infects-end, infects-no, infects-none, infects-yes}
 use mathlib.Core.Logic.{⊎-elim}
-use mathlib.Core.Path.{_∙_, _≡_, subst, sym}
+use mathlib.Core.Path.{_∙_, subst, sym}
 use native.Mathlib.Omega.{arith}
 use Rattle.closure.proofs.infects.Statement.{statement}
 use Rattle.closure.proofs.infects.Tie as tie

@@ -3,7 +3,6 @@ use Rattle.closure.specs.Laws.{join-rows}
 use Rattle.closure.specs.Marks.{marked-then}
 use borrow.Author.Needs.{needs}
 use mathlib.Core.Logic.{inl}
-use mathlib.Core.Path.{_∙_}
 use native.Mathlib.Omega.{arith}
 use Rattle.closure.proofs.join.Statement.{statement}
 use Rattle.closure.proofs.join.Tie as tie

@@ -1,7 +1,6 @@
 -- `closure::pass` meets its contract.
 use Prim.Native.Nat.{_+_, _-_, _<_, _≤_, ℕ}
 use Rattle.closure.specs.Laws.{Passing, pass-end, pass-none, pass-skip, pass-visit}
-use lib.Bits.{bitOr}
 use lib.ListN.{length}
 use mathlib.Core.List.{List}
 use mathlib.Core.Logic.{⊎-elim}

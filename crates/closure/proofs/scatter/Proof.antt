@@ -4,7 +4,7 @@ use lib.Bits.{and-le-l, and-le-r}
 use lib.Count.{trailingZeros}
 use lib.ListN.{length, length-set}
 use mathlib.Core.Bool.{true}
-use mathlib.Core.Path.{_∙_, _≡_, refl}
+use mathlib.Core.Path.{_≡_, refl}
 use native.Mathlib.Nat.{le-refl, le-trans}
 use native.Mathlib.Omega.{arith}
 use Rattle.closure.specs.Adds.{Adds, Passed, Scatter, adds-or, scatter-end, scatter-next, scatter-none}

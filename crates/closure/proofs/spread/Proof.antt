@@ -7,7 +7,7 @@ use Rattle.model.specs.Laws.Bit.{one-shl}
 use lib.Bits.{and-le-r, bitAnd, bitXor}
 use lib.Count.{trailingZeros}
 use lib.ListN.{length-set}
-use mathlib.Core.Path.{_∙_, subst, sym}
+use mathlib.Core.Path.{subst, sym}
 use native.Mathlib.Nat.{le-refl}
 use native.Mathlib.Omega.{arith}
 use Rattle.closure.proofs.spread.Statement.{statement}

@@ -3,7 +3,6 @@ use Rattle.itinerary.specs.Laws.{getD-zero}
 use Rattle.model.specs.Laws.Bytes.{valid-wf}
 use Rattle.partners.specs.Laws.{folds-names}
 use borrow.Author.Needs.{needs}
-use mathlib.Core.Path.{refl}
 use Rattle.partners.proofs.fold.Statement.{statement}
 use Rattle.partners.proofs.fold.Tie as tie
 
