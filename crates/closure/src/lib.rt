@@ -32,8 +32,9 @@ fn scatter(words: &mut [u64], base: usize, bits: u64, value: u64)
     let mut rest = bits;
     while rest != 0 {
         let k = u64::trailing_zeros(rest) as usize;
+        let next = rest & (rest - 1);
         words[base + k] |= value;
-        rest = rest & (rest - 1);
+        rest = next;
     }
 }
 
@@ -184,10 +185,10 @@ fn capabilities(w: &[u64]) -> u32
     ensures { λ r. ⌜ r ≡ held (now (w .entry)) 64 ⌝ }
 {
     let mut sum: u32 = 0;
-    let mut k: usize = 0;
-    while k < 64 {
-        sum += u64::count_ones(w[1 + 2 * k]);
-        k += 1;
+    let mut label: usize = 0;
+    while label < 64 {
+        sum += u64::count_ones(w[1 + 2 * label]);
+        label += 1;
     }
     sum
 }
@@ -224,13 +225,13 @@ fn infects(w: &[u64], movers: &[u64], b: usize) -> u64
     let leaving = w[2 * b] & movers[64 + b];
     let opening = movers[128 + b];
     let mut found: u64 = 0;
-    let mut p: usize = 0;
-    while p < 64 {
-        let row = w[2 * p];
+    let mut outer: usize = 0;
+    while outer < 64 {
+        let row = w[2 * outer];
         if bit_of(row, b) {
-            found |= (row & entering) | leaving | (opening & (1u64 << p));
+            found |= (row & entering) | leaving | (opening & (1u64 << outer));
         }
-        p += 1;
+        outer += 1;
     }
     found
 }

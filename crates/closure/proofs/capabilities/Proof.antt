@@ -7,10 +7,10 @@ use Rattle.closure.proofs.capabilities.Statement.{statement}
 use Rattle.closure.proofs.capabilities.Tie as tie
 
 abbrev Inv-loop : tie.InvT-loop
-Inv-loop w sum₀ k₀ sum k = (k ≤ 64) × (sum ≡ held w k)
+Inv-loop w sum₀ label₀ sum label = (label ≤ 64) × (sum ≡ held w label)
 
 abbrev μ-loop : tie.MeasureT-loop
-μ-loop w sum₀ k₀ sum k = 64 - k
+μ-loop w sum₀ label₀ sum label = 64 - label
 
 loop-holds : tie.Need-loop-holds Inv-loop μ-loop
 loop-holds c = let a = c .args in (omega arith, sym (held-none (a .w .now)))
@@ -31,18 +31,18 @@ add-sum-2 : tie.Need-add-sum-2 Inv-loop μ-loop
 add-sum-2 c =
     let l = c .before .before .loop in
     let w = c .before .before .before .args .w .now in
-    let n = held-next w (l .k) in
-    let b = held-le w (l .k + 1) (λ i. c .shared-slice-known .given i .fits) in
+    let n = held-next w (l .label) in
+    let b = held-le w (l .label + 1) (λ i. c .shared-slice-known .given i .fits) in
     omega arith
 
-add-k : tie.Need-add-k Inv-loop μ-loop
-add-k c = omega arith
+add-label : tie.Need-add-label Inv-loop μ-loop
+add-label c = omega arith
 
 loop-less : tie.Need-loop-less Inv-loop μ-loop
 loop-less c = omega arith
 
 loop-again : tie.Need-loop-again Inv-loop μ-loop
-loop-again c = let l = c .before .before .loop in let n = held-next (c .before .before .before .args .w .now) (l .k) in (omega arith, omega arith)
+loop-again c = let l = c .before .before .loop in let n = held-next (c .before .before .before .args .w .now) (l .label) in (omega arith, omega arith)
 
 returns : tie.Need-returns Inv-loop μ-loop
 returns c = let l = c .before .loop in l .inv .1 ∙ ap (held (c .before .before .args .w .now)) (omega arith)
@@ -59,7 +59,7 @@ capabilities-spec =
     mul-sum-2
     shared-slice-read-sum
     add-sum-2
-    add-k
+    add-label
     loop-less
     loop-again
     returns)

@@ -8,10 +8,10 @@ use Rattle.closure.proofs.infects.Statement.{statement}
 use Rattle.closure.proofs.infects.Tie as tie
 
 abbrev Inv-loop : tie.InvT-loop
-Inv-loop w movers b entering leaving opening found₀ p₀ found p = (p ≤ 64) × Infects w movers b p found
+Inv-loop w movers b entering leaving opening found₀ outer₀ found outer = (outer ≤ 64) × Infects w movers b outer found
 
 abbrev μ-loop : tie.MeasureT-loop
-μ-loop w movers b entering leaving opening found₀ p₀ found p = 64 - p
+μ-loop w movers b entering leaving opening found₀ outer₀ found outer = 64 - outer
 
 mul-entering : tie.Need-mul-entering Inv-loop μ-loop
 mul-entering c = omega arith
@@ -64,8 +64,8 @@ bit-of-requires c κs = omega arith
 shl-found : tie.Need-shl-found Inv-loop μ-loop
 shl-found c = omega arith
 
-add-p : tie.Need-add-p Inv-loop μ-loop
-add-p c = omega arith
+add-outer : tie.Need-add-outer Inv-loop μ-loop
+add-outer c = omega arith
 
 loop-less : tie.Need-loop-less Inv-loop μ-loop
 loop-less c = omega arith
@@ -76,15 +76,15 @@ loop-again c =
     let a = c .before .before .before .before .before .before .before .before .before .before .before .args in
     let l = c .before .before .before .before .loop in
     let e = c .before .bit-of .ensures in
-    let at : ℕ → Type 0 = λ r. Infects (a .w .now) (a .movers .now) (a .b) (l .p + 1) r in (
+    let at : ℕ → Type 0 = λ r. Infects (a .w .now) (a .movers .now) (a .b) (l .outer + 1) r in (
       omega arith,
-      ⊎-elim (λ v. subst at (sym (v .1)) (infects-yes (a .w .now) (a .movers .now) (a .b) (l .p) (l .found) (l .inv .1) (sym e ∙ v .0 .taken)))
-          (λ v. subst at (sym (v .1)) (infects-no (a .w .now) (a .movers .now) (a .b) (l .p) (l .found) (l .inv .1) (sym e ∙ v .0 .left)))
+      ⊎-elim (λ v. subst at (sym (v .1)) (infects-yes (a .w .now) (a .movers .now) (a .b) (l .outer) (l .found) (l .inv .1) (sym e ∙ v .0 .taken)))
+          (λ v. subst at (sym (v .1)) (infects-no (a .w .now) (a .movers .now) (a .b) (l .outer) (l .found) (l .inv .1) (sym e ∙ v .0 .left)))
           (c .if1 .came),
     )
 
 returns : tie.Need-returns Inv-loop μ-loop
-returns c = let a = c .before .before .before .before .before .before .before .before .args in let l = c .before .loop in infects-end (a .w .now) (a .movers .now) (a .b) (l .p) (l .found) (omega arith) (l .inv .1)
+returns c = let a = c .before .before .before .before .before .before .before .before .args in let l = c .before .loop in infects-end (a .w .now) (a .movers .now) (a .b) (l .outer) (l .found) (omega arith) (l .inv .1)
 
 pub infects-spec : {M : Type 1} → statement M
 infects-spec =
@@ -109,7 +109,7 @@ infects-spec =
     shared-slice-read-row
     bit-of-requires
     shl-found
-    add-p
+    add-outer
     loop-less
     loop-again
     returns)

@@ -29,6 +29,9 @@ low-bit c = let s = c .before .before in lowest-one 64 (c .before .loop .rest) (
 cast-k : tie.Need-cast-k Inv-loop μ-loop
 cast-k c = let h = low-bit c .below in omega arith
 
+sub-next : tie.Need-sub-next Inv-loop μ-loop
+sub-next c = omega arith
+
 add-words : tie.Need-add-words Inv-loop μ-loop
 add-words c = let h = low-bit c .below in omega arith
 
@@ -40,9 +43,6 @@ slice-read-words c = let h = low-bit (c .before) .below in omega arith
 
 slice-write-words : tie.Need-slice-write-words Inv-loop μ-loop
 slice-write-words c = let h = low-bit (c .before) .below in omega arith
-
-sub-rest : tie.Need-sub-rest Inv-loop μ-loop
-sub-rest c = omega arith
 
 loop-less : tie.Need-loop-less Inv-loop μ-loop
 loop-less c = let l = c .before .before .loop in let h = and-le-r (l .rest) (l .rest - 1) in let z = c .before .loop-test .taken in omega arith
@@ -73,11 +73,11 @@ scatter-spec =
     μ-loop
     loop-holds
     cast-k
+    sub-next
     add-words
     mul-words
     slice-read-words
     slice-write-words
-    sub-rest
     loop-less
     loop-again
     same-length
