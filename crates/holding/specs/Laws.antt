@@ -18,7 +18,7 @@ use Rattle.closure.specs.Lowest.{Lowest}
 use Rattle.closure.specs.Rules.{Closed, Complete, Decides, Moves, Row, Rows, Sound, Suspects, closed-rows, closed-suspects, movers-closed}
 use Rattle.holding.specs.Tests.{Moving, Opening, Pair, PairsAt, Within, nestsHold, openHolds, stood}
 use Rattle.model.specs.Analysis.{free, holds, onlyIf}
-use Rattle.model.specs.Climbing.{container}
+use Rattle.model.specs.Climbing.{container, nesting, view}
 use Rattle.model.specs.Finite.{every}
 use Rattle.model.specs.Laws.Bit.{or-bit, or-same, same-or, zero-bit}
 use Rattle.model.specs.Laws.Bytes.{length-records, valid-wf}
@@ -36,7 +36,7 @@ use Rattle.model.specs.declared.Rec.{Rec}
 use Rattle.partners.specs.Facts.{AllRules, Facts, Wanted, bearing, nameCell, nestCell, standing}
 use Rattle.partners.specs.Fold.{Folds}
 use Rattle.partners.specs.Laws.{closed-rule, names, rules-closed}
-use Rattle.partners.specs.Standing.{facts-holds, holds-facts, holds-rules, read-at}
+use Rattle.partners.specs.Standing.{contained, facts-holds, holds-facts, holds-rules, read-at}
 use Rattle.tables.specs.Bit.{is-false}
 use Rattle.tables.specs.Grow.{Set}
 
@@ -128,9 +128,9 @@ module _ (policy : List ℕ) (its : List Rec) (u : Set) where
 -- ---- what the loops of the tests find
 
 -- a record as it is read stands as its record does
-pub read-stood : (s : List ℕ) (v : validity s ≡ pass) (i : ℕ) (l : i + 1 ≤ count s) (r : Rec) (e : r ≡ decode s (i + 1)) (T : Table) (c : ℕ) → c ≡ container (records s) (i + 1) →
+pub read-stood : (s : List ℕ) (v : validity s ≡ pass) (i : ℕ) (l : i + 1 ≤ count s) (r : Rec) (e : r ≡ decode s (i + 1)) (T : Table) (c : ℕ) → c ≡ view nesting (records s) (r .parent) →
     stood T c r ≡ stood T (container (records s) (i + 1)) (at (records s) (i + 1))
-read-stood s v i l r e T c q = ap₂ (λ (x : ℕ) (y : Rec). stood T x y) q (read-at s v i l r e)
+read-stood s v i l r e T c q = ap₂ (λ (x : ℕ) (y : Rec). stood T x y) (contained s v i l r e c q) (read-at s v i l r e)
 
 -- an ambient of the right form
 pub ambient-form : (r : Rec) → shape r ≡ true → r .kind ≡ 1 → (r .label < 64) × (r .name < 64)

@@ -62,7 +62,7 @@ fn nesting_holds(it: &[u8], table: &[u8]) -> bool
     while i < n {
         let r = itinerary::record_at(it, i + 1);
         if 1 <= r.kind {
-            if !stands(table, itinerary::container_of(it, i + 1), r) {
+            if !stands(table, itinerary::container_below(it, r.parent), r) {
                 return false;
             }
         }

@@ -2,7 +2,7 @@
 use Prim.Native.Nat.{_%_, _*_, _+_, _-_, _/_, _<_, _≤_, suc, zero, ℕ}
 use borrow.Author.Tests.{eq-eqb, leb-true, ne-eqb}
 use lib.Dec.{eqb, leb}
-use lib.ListN.{getD, length, length-replicate, replicate, set}
+use lib.ListN.{getD, length, length-replicate, length-set, replicate, set}
 use lib.Seq.{getD-set-other}
 use mathlib.Core.Bool.{Bool, _&&_, false, not, true}
 use mathlib.Core.List.{List}
@@ -255,8 +255,8 @@ unfolding view count
 view-from v s i = let e : length s / 8 + 1 ≡ suc (length (records s)) = omega (arith, length-records s) in ap (λ k. viewFrom v (records s) k i) e
 
 -- the view at the parent of a record that was read
-pub view-above : {A : Type 0} (v : View A) (s : List ℕ) (i : ℕ) → length s % 8 ≡ 0 → (r : Rec) → r ≡ decode s i → viewFrom v (records s) (length s / 8 + 1) (r .parent) ≡ view v (records s) (parentOf (records s) i)
-view-above v s i m r e = view-from v s (r .parent) ∙ ap (λ x. view v (records s) (x .parent)) (e ∙ sym (at-whole s m i))
+pub view-above : {A : Type 0} (v : View A) (s : List ℕ) (i : ℕ) → length s % 8 ≡ 0 → (r : Rec) → r ≡ decode s i → view v (records s) (r .parent) ≡ view v (records s) (parentOf (records s) i)
+view-above v s i m r e = ap (λ x. view v (records s) (x .parent)) (e ∙ sym (at-whole s m i))
 
 -- ambients by their kind
 pub ambient-is : (r : Rec) → r .kind ≡ 1 → isAmbient r ≡ true
@@ -335,13 +335,17 @@ getD-zero zero j = refl
 getD-zero (suc k) zero = refl
 getD-zero (suc k) (suc j) = getD-zero k j
 
-pub unmarked : {s : List ℕ} → Parented s → Climbable s (zeros 1025)
+unmarked : {s : List ℕ} → Parented s → Climbable s (zeros 1025)
 unfolding count
 unmarked {s} w = record {
   parented = w;
   room = rw length-replicate (omega (arith, w .few));
   marks = record { reach = λ j e. absurd (omega (arith, e, getD-zero 1025 j)) };
 }
+
+-- and with the environment marked
+pub root-marked : {s : List ℕ} → Parented s → Climbable s (set (zeros 1025) 0 1)
+root-marked {s} w = climbable (unmarked w) (length-set (zeros 1025) 0 1) (known-more 0 (unmarked w .marks) (reach-root s 0 refl))
 
 pub parented : (s : List ℕ) → sizeRight s ≡ true → eachOf (recordCheck s) 1 (count s) ≡ pass → Parented s
 parented s e h = record { whole = size-whole s e; few = size-le s e; parents = parents-in s (size-whole s e) h }
