@@ -26,14 +26,14 @@ fn within(word: u64, outer: u64) -> bool {
 }
 
 /// Bit k of word t for bit t of word k.
-pub fn turned(words: &[u64; 64]) -> [u64; 64] {
-    let mut turned = [0; 64];
+pub fn transposed(words: &[u64; 64]) -> [u64; 64] {
+    let mut transposed = [0; 64];
     for (k, &word) in words.iter().enumerate() {
         for t in labels(word) {
-            turned[t] |= 1 << k;
+            transposed[t] |= 1 << k;
         }
     }
-    turned
+    transposed
 }
 
 /// Adds labels to a word; the row as a set, if the word changed.
@@ -49,7 +49,7 @@ fn gain(word: &mut u64, more: u64, row: usize) -> u64 {
 impl Table {
     /// Adds the movers of the table.
     fn add_movers(&self, movers: &mut Movers, partners: &Partners) {
-        let holders = turned(&self.orders);
+        let holders = transposed(&self.orders);
         for (movers, partners) in movers.iter_mut().zip(partners) {
             for (&partners, holders) in partners.iter().zip(holders) {
                 for b in labels(partners) {

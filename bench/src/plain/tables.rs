@@ -1,6 +1,6 @@
 //! Policy and table: refusals 7 and 8, check, maker and verdict.
 
-use super::closure::{turned, Partners};
+use super::closure::{transposed, Partners};
 use super::itinerary::{nearest, records, validate, AMBIENT, IN};
 use super::refuse;
 use birnsket::{Refusal, Verdict, TABLE_LENGTH};
@@ -75,7 +75,7 @@ impl Table {
 
     /// The labels that each kind and label of capability may act on.
     fn partners(&self, itinerary: &[u8]) -> Partners {
-        let bearers = turned(&self.names);
+        let bearers = transposed(&self.names);
         let mut partners = [[0; 64]; 3];
         for record in records(itinerary).filter(|record| record.kind >= IN) {
             partners[usize::from(record.kind - IN)][usize::from(record.label - 64)] |=

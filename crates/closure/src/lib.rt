@@ -7,7 +7,7 @@ ghost use Prim.Native.Nat.{ℕ, _+_, _*_, _<_};
 ghost use lib.ListN.{length, getD};
 ghost use Rattle.model.specs.Tables.{testBit};
 ghost use Rattle.tables.specs.Grow.{Grown, Smallest};
-ghost use Rattle.closure.specs.Adds.{Adds, Folded, Scatter, Turned};
+ghost use Rattle.closure.specs.Adds.{Adds, Folded, Scatter, Transposed};
 ghost use Rattle.closure.specs.Cells.{Bits, Word};
 ghost use Rattle.closure.specs.Laws.{Either, Owed, Passed, Reads, RowIn};
 ghost use Rattle.closure.specs.Marks.{Marked, Only};
@@ -38,15 +38,15 @@ fn scatter(words: &mut [u64], base: usize, bits: u64, value: u64)
     }
 }
 
-// Turns 64 words, `step` apart: bit t of word first + step * k goes to bit k of word t. (inner)
-pub fn turn(turned: &mut [u64], w: &[u64], first: usize, step: usize)
-    requires { ⌜ length (now turned) ≡ 64 ⌝ }
+// Transposes 64 words, `step` apart: bit t of word first + step * k goes to bit k of word t. (inner)
+pub fn transpose(columns: &mut [u64], w: &[u64], first: usize, step: usize)
+    requires { ⌜ length (now columns) ≡ 64 ⌝ }
     requires { ⌜ first + step * 63 < length (now w) ⌝ }
-    ensures { λ _. ⌜ Adds (Turned (now (w .entry)) first step 64) (Turned (now (w .entry)) first step 64) (now (turned .entry)) (now (turned .exit)) ⌝ }
+    ensures { λ _. ⌜ Adds (Transposed (now (w .entry)) first step 64) (Transposed (now (w .entry)) first step 64) (now (columns .entry)) (now (columns .exit)) ⌝ }
 {
     let mut k: usize = 0;
     while k < 64 {
-        scatter(turned, 0, w[first + step * k], 1u64 << k);
+        scatter(columns, 0, w[first + step * k], 1u64 << k);
         k += 1;
     }
 }
@@ -73,7 +73,7 @@ pub fn add_movers(movers: &mut [u64], w: &[u64], partners: &[u64])
     ensures { λ _. ⌜ Adds (Moves (now (partners .entry)) (Bits (now (w .entry)))) (Moves (now (partners .entry)) (Bits (now (w .entry)))) (now (movers .entry)) (now (movers .exit)) ⌝ }
 {
     let mut holders = [0u64; 64];
-    turn(&mut holders, w, 1, 2);
+    transpose(&mut holders, w, 1, 2);
     fold(movers, &holders, partners);
 }
 

@@ -10,7 +10,7 @@ use mathlib.Core.Option.{some}
 use mathlib.Core.Path.{_∙_, _≡_, ap, refl, subst, sym}
 use native.Mathlib.Decide.{ℕ-discrete}
 use native.Mathlib.Omega.{arith}
-use Rattle.closure.specs.Adds.{Adds, Turned, adds-as, adds-none, adds-or, turned-bit}
+use Rattle.closure.specs.Adds.{Adds, Transposed, adds-as, adds-none, adds-or, transposed-bit}
 use Rattle.closure.specs.Cells.{Bits, at-word, below-64, orAt}
 use Rattle.closure.specs.Rules.{Closed}
 use Rattle.model.specs.Analysis.{free}
@@ -94,8 +94,8 @@ module _ (its : List Rec) (H : ℕ → ℕ → Bool) where
       has j i b l m (yes q) = a .has i b (subst (λ (x : Rec). Aims H x i b) (ap (at its) q ∙ sym e) m)
       has j i b l m (no q) = a .keeps i b (f .has j i b (omega arith) m)
 
--- H of the table w, turned: bearers were clear words z
-module _ {its : List Rec} (wf : WellFormed its) (w z bearers : List ℕ) (zero : (i : ℕ) → getD z i 0 ≡ 0) (a : Adds (Turned w 128 1 64) (Turned w 128 1 64) z bearers) where
+-- H of the table w, transposed into the clear words z
+module _ {its : List Rec} (wf : WellFormed its) (w z bearers : List ℕ) (zero : (i : ℕ) → getD z i 0 ≡ 0) (a : Adds (Transposed w 128 1 64) (Transposed w 128 1 64) z bearers) where
   names-word : (b n : ℕ) → n < 64 → names w b n ≡ testBit (getD w (128 + 1 * b) 0) n
   unfolding placeH
   names-word b n h = at-word w (128 + 1 * b) n (8192 + (64 * b + n)) h (omega arith)
@@ -108,7 +108,7 @@ module _ {its : List Rec} (wf : WellFormed its) (w z bearers : List ℕ) (zero :
     only = λ i b t.
         let s = f .only i b t in
         let m = s .aims in
-        let o = turned-bit w 128 1 z bearers zero a _ b (m .names) in
+        let o = transposed-bit w 128 1 z bearers zero a _ b (m .names) in
         record { from = s .from; aims = record { capable = m .capable; here = m .here; below = m .below; names = names-word b _ (o .label) ∙ o .bit } };
   }
 

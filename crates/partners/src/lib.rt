@@ -60,6 +60,6 @@ pub fn fold(partners: &mut [u64], w: &[u64], it: &[u8])
     ensures { λ _. ⌜ Folds (records (now (it .entry))) (names (now (w .entry))) (count (now (it .entry))) (now (partners .exit)) ⌝ }
 {
     let mut bearers = [0u64; 64];
-    closure::turn(&mut bearers, w, 128, 1);
+    closure::transpose(&mut bearers, w, 128, 1);
     aim_all(partners, &bearers, it);
 }

@@ -5,11 +5,11 @@ use borrow.Author.Needs.{needs}
 use Rattle.closure.proofs.add_movers.Statement.{statement}
 use Rattle.closure.proofs.add_movers.Tie as tie
 
-slice-aggregate-turn : tie.Need-slice-aggregate-turn
-slice-aggregate-turn c = search needs
+slice-aggregate-transpose : tie.Need-slice-aggregate-transpose
+slice-aggregate-transpose c = search needs
 
-turn-requires : tie.Need-turn-requires
-turn-requires c κs = search needs
+transpose-requires : tie.Need-transpose-requires
+transpose-requires c κs = search needs
 
 slice-aggregate-fold : tie.Need-slice-aggregate-fold
 slice-aggregate-fold c = search needs
@@ -23,7 +23,7 @@ same-length c = search needs
 returns : tie.Need-returns
 returns c =
     let a = c .before .before .before .before .before .before .before .before .before .before .before .args in
-    let t = c .before .before .before .before .before .before .turn in
+    let t = c .before .before .before .before .before .before .transpose in
     let f = c .before .before .fold in
     folded-moves (a .w .now) _ (t .last .0) (a .partners .now) (getD-zero 64) (t .ensures) (f .ensures)
 
@@ -31,8 +31,8 @@ pub add-movers-spec : {M : Type 1} → statement M
 add-movers-spec =
     tie.close
     (tie.spec
-    slice-aggregate-turn
-    turn-requires
+    slice-aggregate-transpose
+    transpose-requires
     slice-aggregate-fold
     fold-requires
     same-length

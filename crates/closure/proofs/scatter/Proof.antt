@@ -7,7 +7,7 @@ use mathlib.Core.Bool.{true}
 use mathlib.Core.Path.{_≡_, refl}
 use native.Mathlib.Nat.{le-refl, le-trans}
 use native.Mathlib.Omega.{arith}
-use Rattle.closure.specs.Adds.{Adds, Passed, Scatter, adds-or, scatter-end, scatter-next, scatter-none}
+use Rattle.closure.specs.Adds.{Adds, Scatter, Scattered, adds-or, scatter-end, scatter-next, scatter-none}
 use Rattle.closure.specs.Laws.{left-sub}
 use Rattle.closure.specs.Lowest.{Lowest, lowest-one}
 use Rattle.model.specs.Tables.{testBit}
@@ -15,7 +15,7 @@ use Rattle.closure.proofs.scatter.Statement.{statement}
 use Rattle.closure.proofs.scatter.Tie as tie
 
 abbrev Inv-loop : tie.InvT-loop
-Inv-loop words₀ base bits value rest₀ words rest = (length words ≡ length words₀) × (rest ≤ bits) × ((x : ℕ) → testBit rest x ≡ true → testBit bits x ≡ true) × Adds (Passed base bits value rest) (Scatter base bits value) words₀ words
+Inv-loop words₀ base bits value rest₀ words rest = (length words ≡ length words₀) × (rest ≤ bits) × ((x : ℕ) → testBit rest x ≡ true → testBit bits x ≡ true) × Adds (Scattered base bits value rest) (Scatter base bits value) words₀ words
 
 abbrev μ-loop : tie.MeasureT-loop
 μ-loop words₀ base bits value rest₀ words rest = rest

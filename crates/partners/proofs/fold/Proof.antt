@@ -6,11 +6,11 @@ use borrow.Author.Needs.{needs}
 use Rattle.partners.proofs.fold.Statement.{statement}
 use Rattle.partners.proofs.fold.Tie as tie
 
-slice-aggregate-turn : tie.Need-slice-aggregate-turn
-slice-aggregate-turn c = search needs
+slice-aggregate-transpose : tie.Need-slice-aggregate-transpose
+slice-aggregate-transpose c = search needs
 
-turn-requires : tie.Need-turn-requires
-turn-requires c κs = search needs
+transpose-requires : tie.Need-transpose-requires
+transpose-requires c κs = search needs
 
 slice-aggregate-aim-all : tie.Need-slice-aggregate-aim-all
 slice-aggregate-aim-all c = search needs
@@ -24,7 +24,7 @@ same-length c = search needs
 returns : tie.Need-returns
 returns c =
     let s = c .before .before .before .before .before .before .before .before .before .before .before in
-    let t = c .before .before .before .before .before .before .turn in
+    let t = c .before .before .before .before .before .before .transpose in
     let q = c .before .before .aim-all in
     folds-names (valid-wf (s .args .it .now) (s .pre .1 .1 .1)) (s .args .w .now) _ (t .last .0) (getD-zero 64) (t .ensures) _ (q .last .0) (q .ensures)
 
@@ -32,8 +32,8 @@ pub fold-spec : {M : Type 1} → statement M
 fold-spec =
     tie.close
     (tie.spec
-    slice-aggregate-turn
-    turn-requires
+    slice-aggregate-transpose
+    transpose-requires
     slice-aggregate-aim-all
     aim-all-requires
     same-length

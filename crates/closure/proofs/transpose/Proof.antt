@@ -1,21 +1,21 @@
--- `closure::turn` meets its contract.
+-- `closure::transpose` meets its contract.
 use Prim.Native.Nat.{_*_, _-_, _≤_}
-use Rattle.closure.specs.Adds.{Adds, Turned, turn-end, turn-next, turn-none}
+use Rattle.closure.specs.Adds.{Adds, Transposed, transpose-end, transpose-next, transpose-none}
 use lib.ListN.{length}
 use mathlib.Core.Path.{_∙_, _≡_, refl}
 use native.Mathlib.Nat.{mul-le-mul-left}
 use native.Mathlib.Omega.{arith}
-use Rattle.closure.proofs.turn.Statement.{statement}
-use Rattle.closure.proofs.turn.Tie as tie
+use Rattle.closure.proofs.transpose.Statement.{statement}
+use Rattle.closure.proofs.transpose.Tie as tie
 
 abbrev Inv-loop : tie.InvT-loop
-Inv-loop turned₀ w first step k₀ turned k = (length turned ≡ length turned₀) × (k ≤ 64) × Adds (Turned w first step k) (Turned w first step 64) turned₀ turned
+Inv-loop columns₀ w first step k₀ columns k = (length columns ≡ length columns₀) × (k ≤ 64) × Adds (Transposed w first step k) (Transposed w first step 64) columns₀ columns
 
 abbrev μ-loop : tie.MeasureT-loop
-μ-loop turned₀ w first step k₀ turned k = 64 - k
+μ-loop columns₀ w first step k₀ columns k = 64 - k
 
 loop-holds : tie.Need-loop-holds Inv-loop μ-loop
-loop-holds c = let a = c .before .before .args in (refl, omega arith, turn-none (a .w .now) (a .first) (a .step))
+loop-holds c = let a = c .before .before .args in (refl, omega arith, transpose-none (a .w .now) (a .first) (a .step))
 
 at-most : (c : tie.In-loop Inv-loop μ-loop) → c .before .before .before .before .args .step * c .before .loop .k ≤ c .before .before .before .before .args .step * 63
 at-most c = mul-le-mul-left (c .before .before .before .before .args .step) (omega arith)
@@ -49,16 +49,16 @@ loop-again c =
     let a = c .before .before .before .before .before .before .before .before .before .args in
     let l = c .before .before .before .before .before .before .loop in
     let q = c .before .before .scatter in
-    (q .kept .0 ∙ l .inv .0, omega arith, turn-next (a .w .now) (a .first) (a .step) (l .k) (omega arith) (l .inv .2) (q .ensures))
+    (q .kept .0 ∙ l .inv .0, omega arith, transpose-next (a .w .now) (a .first) (a .step) (l .k) (omega arith) (l .inv .2) (q .ensures))
 
 same-length : tie.Need-same-length Inv-loop μ-loop
 same-length c = c .before .loop .inv .0
 
 returns : tie.Need-returns Inv-loop μ-loop
-returns c = let a = c .before .before .before .before .args in turn-end (a .w .now) (a .first) (a .step) (c .before .loop .k) (omega arith) (c .before .loop .inv .2)
+returns c = let a = c .before .before .before .before .args in transpose-end (a .w .now) (a .first) (a .step) (c .before .loop .k) (omega arith) (c .before .loop .inv .2)
 
-pub turn-spec : {M : Type 1} → statement M
-turn-spec =
+pub transpose-spec : {M : Type 1} → statement M
+transpose-spec =
     tie.close
     (tie.spec
     Inv-loop
