@@ -1,6 +1,6 @@
 //! Policy and table: refusals 7 and 8, check, maker and verdict.
 
-use super::closure::{column, Partners};
+use super::closure::{transposed, Partners};
 use super::itinerary::{nearest, records, validate, AMBIENT, IN};
 use super::refuse;
 use birnsket::{Refusal, Verdict, TABLE_LENGTH};
@@ -75,10 +75,11 @@ impl Table {
 
     /// The labels that each kind and label of capability may act on.
     fn partners(&self, itinerary: &[u8]) -> Partners {
+        let bearers = transposed(&self.names);
         let mut partners = [[0; 64]; 3];
         for record in records(itinerary).filter(|record| record.kind >= IN) {
-            let bearers = column(self.names.iter().copied(), usize::from(record.name));
-            partners[usize::from(record.kind - IN)][usize::from(record.label - 64)] |= bearers;
+            partners[usize::from(record.kind - IN)][usize::from(record.label - 64)] |=
+                bearers[usize::from(record.name)];
         }
         partners
     }
@@ -96,8 +97,7 @@ impl Table {
         if highs(policy) & !self.suspects != 0 || !self.nests(itinerary) {
             return false;
         }
-        let partners = self.partners(itinerary);
-        self.opens_hold(&partners) && self.moves_hold(&partners)
+        self.rules_hold(&self.partners(itinerary))
     }
 }
 

@@ -1,19 +1,39 @@
 -- The bits of a list of words as one set of numbers, and what `xs[i] |= v` does to it.
-use Prim.Native.Nat.{_%_, _*_, _+_, _/_, _<_, ℕ}
+use Prim.Native.Nat.{_%_, _*_, _+_, _/_, _<_, _^_, ℕ}
 use lib.Bits.{bitAnd, bitOr}
+use lib.Dec.{eqb}
 use lib.ListN.{getD, length, set}
 use lib.Seq.{getD-set-other, getD-set-same}
-use mathlib.Core.Bool.{_||_, true}
+use mathlib.Core.Bool.{Bool, _||_, false, true, true≢false}
 use mathlib.Core.List.{List}
-use mathlib.Core.Path.{_∙_, _≡_, ap, ap₂, sym}
-use native.Mathlib.Decide.{ℕ-discrete}
+use mathlib.Core.Logic.{_⊎_}
+use mathlib.Core.Path.{_∙_, _≡_, ap, ap₂, refl, subst, sym}
+use native.Mathlib.Decide.{decLt, ℕ-discrete}
+use native.Mathlib.Nat.{eq-or-lt-of-le, le-of-suc-le-suc}
+use native.Mathlib.Numerals.{add-one}
 use native.Mathlib.Omega.{arith}
-use Rattle.model.specs.Laws.Bit.{and-bit, or-bit}
+use Rattle.model.specs.Laws.Bit.{and-bit, high-bit, one-shl, or-bit, pow-bit}
 use Rattle.model.specs.Laws.Checks.{and-make, or-cases, or-right}
 use Rattle.model.specs.Laws.WellFormed.{and-left, and-right}
 use Rattle.model.specs.Tables.{bitAt, testBit}
 use Rattle.tables.specs.Bit.{or-left}
 use Rattle.tables.specs.Grow.{Grown, Inside, Set}
+
+-- a bit is not both
+pub never : {C : Type 0} (b : Bool) → b ≡ true → b ≡ false → C
+never b p q = absurd (true≢false (sym p ∙ q))
+
+-- a word has no bits past its own
+pub below-64 : (x k : ℕ) → x < 2 ^ 64 → testBit x k ≡ true → k < 64
+below-64 x k h t = go (decLt k 64)
+  where
+    go : Dec (k < 64) → k < 64
+    go (yes l) = l
+    go (no d) = never _ t (high-bit x k 64 h (omega arith))
+
+-- the last of some numbers, or one before it
+pub last-or : (x n : ℕ) → x < n + 1 → (x ≡ n) ⊎ (x < n)
+last-or x n l = eq-or-lt-of-le (le-of-suc-le-suc (subst (λ (y : ℕ). x < y) (add-one n) l))
 
 -- the words of 64 bits as a set
 abbrev pub Bits : List ℕ → Set
@@ -65,6 +85,10 @@ at-word w i k j h e =
     let r : j % 64 ≡ k = omega arith in
     ap₂ (λ (x y : ℕ). testBit (getD w x 0) y) q r
 
+-- k in S
+pub suspect-bit : (w : List ℕ) (k : ℕ) → k < 64 → Bits w (12288 + k) ≡ testBit (getD w 192 0) k
+suspect-bit w k h = at-word w 192 k (12288 + k) h refl
+
 -- word i of a set, by the places in it
 pub word-make : (i v : ℕ) (u : Set) → ((x : ℕ) → testBit v x ≡ true → x < 64 → u (64 * i + x) ≡ true) → Word 64 i v u
 unfolding Word
@@ -73,6 +97,10 @@ word-make i v u f j e t = let m : j ≡ 64 * i + j % 64 = omega arith in ap u m 
 pub word-use : (i v : ℕ) (u : Set) → Word 64 i v u → (x : ℕ) → testBit v x ≡ true → x < 64 → u (64 * i + x) ≡ true
 unfolding Word
 word-use i v u f x t h = let r : (64 * i + x) % 64 ≡ x = omega arith in f (64 * i + x) (omega arith) (ap (testBit v) r ∙ t)
+
+-- `1 << p` has bit p alone
+pub one-bit : (p x : ℕ) → p < 64 → testBit ((1 * 2 ^ p) % 2 ^ 64) x ≡ eqb x p
+one-bit p x h = ap (λ (y : ℕ). testBit y x) (one-shl p 64 h) ∙ pow-bit p x
 
 -- the bits of an `&`
 module _ (r c x : ℕ) where

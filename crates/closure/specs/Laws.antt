@@ -1,75 +1,113 @@
--- What the word operations and their loops do to the table's set of bits.
-use Prim.Native.Nat.{_%_, _*_, _+_, _-_, _<_, _^_, _≤_, ℕ}
-use borrow.Author.Tests.{eq-eqb, eqb-true}
+-- The rules of movers for one pair, for a row, and for all rows by passes that leave out what has not changed.
+use Prim.Native.Nat.{_%_, _*_, _+_, _-_, _/_, _<_, _^_, ℕ}
+use borrow.Author.Tests.{eq-eqb}
 use lib.Bits.{bitAnd, bitOr}
-use lib.Dec.{eqb}
-use lib.ListN.{getD, length, length-set}
-use mathlib.Core.Bool.{Bool, false, true, true≢false}
+use lib.ListN.{getD}
+use mathlib.Core.Bool.{false, true, true≢false}
 use mathlib.Core.List.{List}
-use mathlib.Core.Logic.{_⊎_, ⊎-elim}
-use mathlib.Core.Path.{_∙_, _≡_, ap, refl, subst, sym}
+use mathlib.Core.Logic.{_⊎_, inl, inr, ⊎-elim}
+use mathlib.Core.Path.{_∙_, _≡_, ap, fun-ext, refl, subst, sym}
 use native.Mathlib.Decide.{decLt, ℕ-discrete}
-use native.Mathlib.Nat.{eq-or-lt-of-le, le-of-suc-le-suc, not-suc-le-zero}
-use native.Mathlib.Numerals.{add-one}
+use native.Mathlib.Nat.{not-suc-le-zero}
 use native.Mathlib.Omega.{arith}
-use Rattle.closure.specs.Cells.{Bits, Word, and-in, and-l, and-r, at-word, or-word, orAt, word-make, word-use}
+use Rattle.closure.specs.Cells.{Bits, Word, and-in, and-l, and-r, at-word, last-or, never, one-bit, word-make, word-use}
 use Rattle.closure.specs.Lowest.{Lowest}
-use Rattle.closure.specs.Rules.{Admits, Closed, Column, Enters, I, InRule, Leaves, Merges, OpenRule, Opens, OutRule, Rule, Rules, RulesAt, Turn}
-use Rattle.model.specs.Laws.Bit.{one-shl, or-bit, pow-bit, zero-bit}
+use Rattle.closure.specs.Marks.{Marked, marked-none, marked-then}
+use Rattle.closure.specs.Rules.{I, Nests, Row, Rows}
+use Rattle.model.specs.Finite.{every}
+use Rattle.model.specs.Laws.Bit.{or-bit, zero-bit}
 use Rattle.model.specs.Laws.Checks.{or-cases, or-right}
-use Rattle.model.specs.Tables.{testBit}
-use Rattle.tables.specs.Bit.{or-left}
-use Rattle.tables.specs.Grow.{Below, Grown, Inside, Set, chain, grown-none, loop-end, loop-next, loop-skip, recast}
-
-never : {C : Type 0} (b : Bool) → b ≡ true → b ≡ false → C
-never b p q = absurd (true≢false (sym p ∙ q))
-
--- `1 << p` has bit p alone
-pub one-bit : (p x : ℕ) → p < 64 → testBit ((1 * 2 ^ p) % 2 ^ 64) x ≡ eqb x p
-one-bit p x h = ap (λ (y : ℕ). testBit y x) (one-shl p 64 h) ∙ pow-bit p x
+use Rattle.model.specs.Laws.Finite.{every-use}
+use Rattle.model.specs.Tables.{bitAt, testBit}
+use Rattle.tables.specs.Bit.{is-false, or-left}
+use Rattle.tables.specs.Grow.{Grown, Inside, Set, Smallest, any, chain, grown-none, recast}
 
 -- row k, as words 2 k and 2 k + 1
-row-lo : (k x : ℕ) → 128 * k + x ≡ 64 * (2 * k) + x
+pub row-lo : (k x : ℕ) → 128 * k + x ≡ 64 * (2 * k) + x
 row-lo k x = omega arith
 
 row-hi : (k x : ℕ) → 128 * k + (64 + x) ≡ 64 * (2 * k + 1) + x
 row-hi k x = omega arith
 
--- k in S, as the code reads it
-suspect : (w : List ℕ) (k : ℕ) → k < 64 → Bits w (12288 + k) ≡ testBit (getD w 192 0) k
-suspect w k h = at-word w 192 k (12288 + k) h refl
+pub bit-lo : (w : List ℕ) (r x : ℕ) → x < 64 → Bits w (128 * r + x) ≡ testBit (getD w (2 * r) 0) x
+bit-lo w r x h = at-word w (2 * r) x (128 * r + x) h (row-lo r x)
 
--- ---- labels added to a row
+bit-hi : (w : List ℕ) (r x : ℕ) → x < 64 → Bits w (128 * r + (64 + x)) ≡ testBit (getD w (2 * r + 1) 0) x
+bit-hi w r x h = at-word w (2 * r + 1) x (128 * r + (64 + x)) h (row-hi r x)
 
-module _ (w : List ℕ) (k s a : ℕ) (l : length w ≡ 193) (hk : k < 64) (hs : s < 64) where
-  abbrev w₁ : List ℕ
-  w₁ = orAt w (2 * k) a
+-- a step that a stronger property asks for
+asked : {F F₁ R : Set → Type 0} {s s′ : Set} → Grown F R s s′ → ((u : Set) → Inside s u → F₁ u → F u) → Grown F₁ R s s′
+asked g f = recast g f (λ r. r)
 
-  rowed : Grown (Admits a k s) (Word 64 (2 * k) a) (Bits w) (Bits w₁)
-  unfolding Admits
-  rowed = recast (or-word 64 w (2 * k) a (omega arith)) (λ u i c. word-make (2 * k) a u (λ x t h. sym (ap u (row-lo k x)) ∙ c x t h .0)) (λ r. r)
+-- ---- row b into row p
 
-  row-part : Word 64 (2 * k) a (Bits w) → (x : ℕ) → testBit a x ≡ true → x < 64 → I (Bits w) k x
-  row-part r x t h = ap (Bits w) (row-lo k x) ∙ word-use (2 * k) a (Bits w) r x t h
+unfoldable pub RowIn : ℕ → ℕ → Set → Type 0
+RowIn p b u = (k : ℕ) → k < 128 → I u b k → I u p k
 
-  admit-both : testBit (getD w₁ 192 0) s ≡ true → Grown (Admits a k s) (Admits a k s) (Bits w) (Bits (orAt w₁ 192 a))
-  unfolding Admits
-  admit-both e =
-      chain rowed (or-word 64 w₁ 192 a (simp length-set (omega arith)))
-      (λ u i c. word-make 192 a u (λ x t h. c x t h .1 (i (12288 + s) (suspect w₁ s hs ∙ e))))
-      (λ e r r₁ x t h. (row-part r x t h, λ _. word-use 192 a (Bits w) r₁ x t h))
+-- the words of row b, read from w, added one after the other
+pub join-rows : (w : List ℕ) (p b : ℕ) {s₁ s₂ : Set} → Grown (Word 64 (2 * p) (getD w (2 * b) 0)) (Word 64 (2 * p) (getD w (2 * b) 0)) (Bits w) s₁ →
+    Grown (Word 64 (2 * p + 1) (getD w (2 * b + 1) 0)) (Word 64 (2 * p + 1) (getD w (2 * b + 1) 0)) s₁ s₂ → Grown (RowIn p b) (RowIn p b) (Bits w) s₂
+unfolding RowIn
+join-rows w p b {s₁} g h =
+    chain (asked g (λ u i c. word-make (2 * p) lo u (λ x t l. sym (ap u (row-lo p x)) ∙ c x (omega arith) (i (128 * b + x) (bit-lo w b x l ∙ t))))) h
+    (λ u i c. word-make (2 * p + 1) hi u (λ x t l. sym (ap u (row-hi p x)) ∙ c (64 + x) (omega arith) (i (128 * b + (64 + x)) (g .keeps (128 * b + (64 + x)) (bit-hi w b x l ∙ t)))))
+    (λ e r r₁ k l t. both r r₁ k l t (decLt k 64))
+  where
+    lo : ℕ
+    lo = getD w (2 * b) 0
 
-  admit-row : testBit (getD w₁ 192 0) s ≡ false → Grown (Admits a k s) (Admits a k s) (Bits w) (Bits w₁)
-  unfolding Admits
-  admit-row d = recast rowed (λ u i c. c) (λ r x t h. (row-part r x t h, λ q. never _ (sym (suspect w₁ s hs) ∙ rowed .keeps (12288 + s) q) d))
+    hi : ℕ
+    hi = getD w (2 * b + 1) 0
 
-  -- v is the table with the row, v′ that with the suspects
-  module _ (v : List ℕ) (e : v ≡ w₁) where
-    pub admit-yes : (v′ : List ℕ) → testBit (getD v 192 0) s ≡ true → v′ ≡ orAt v 192 a → Grown (Admits a k s) (Admits a k s) (Bits w) (Bits v′)
-    admit-yes v′ t e′ = rw (e′, e) (admit-both (rw e at t))
+    both : Word 64 (2 * p) lo (Bits w) → Word 64 (2 * p + 1) hi (Bits w) → (k : ℕ) → k < 128 → I (Bits w) b k → Dec (k < 64) → I (Bits w) p k
+    both r r₁ k l t (yes d) = ap (Bits w) (row-lo p k) ∙ word-use (2 * p) lo (Bits w) r k (sym (bit-lo w b k d) ∙ t) d
+    both r r₁ k l t (no d) =
+        let e : k ≡ 64 + (k - 64) = omega arith in
+        let f : k - 64 < 64 = omega arith in
+        ap (λ (y : ℕ). Bits w (128 * p + y)) e ∙ ap (Bits w) (row-hi p (k - 64))
+        ∙ word-use (2 * p + 1) hi (Bits w) r₁ (k - 64) (sym (bit-hi w b (k - 64) f) ∙ ap (λ (y : ℕ). Bits w (128 * b + y)) (sym e) ∙ t) f
 
-    pub admit-no : testBit (getD v 192 0) s ≡ false → Grown (Admits a k s) (Admits a k s) (Bits w) (Bits v)
-    admit-no t = rw e (admit-row (rw e at t))
+-- ---- a pair
+
+module _ (m : List ℕ) (p b : ℕ) where
+  -- in and out
+  pub record Moved (u : Set) : Type 0 where
+    pub ins : (a : ℕ) → a < 64 → testBit (getD m b 0) a ≡ true → I u p a → I u b a
+    pub outs : (a : ℕ) → a < 64 → testBit (getD m (64 + b) 0) a ≡ true → I u b a → I u p a
+
+  -- both rows are read from w
+  pub pair-moved : (w : List ℕ) {s₁ s₂ : Set} →
+      Grown (Word 64 (2 * b) (bitAnd (getD w (2 * p) 0) (getD m b 0))) (Word 64 (2 * b) (bitAnd (getD w (2 * p) 0) (getD m b 0))) (Bits w) s₁ →
+      Grown (Word 64 (2 * p) (bitAnd (getD w (2 * b) 0) (getD m (64 + b) 0))) (Word 64 (2 * p) (bitAnd (getD w (2 * b) 0) (getD m (64 + b) 0))) s₁ s₂ →
+      Grown Moved Moved (Bits w) s₂
+  pair-moved w g h =
+      chain (asked g (λ u i c. word-make (2 * b) (bitAnd here enter) u (λ x t l. sym (ap u (row-lo b x))
+      ∙ c .ins x l (and-r here enter x t) (i (128 * p + x) (bit-lo w p x l ∙ and-l here enter x t))))) h
+      (λ u i c. word-make (2 * p) (bitAnd there leave) u (λ x t l. sym (ap u (row-lo p x))
+      ∙ c .outs x l (and-r there leave x t) (i (128 * b + x) (g .keeps (128 * b + x) (bit-lo w b x l ∙ and-l there leave x t)))))
+      (λ e r r₁. record {
+        ins = λ a l t pa. ap (Bits w) (row-lo b a) ∙ word-use (2 * b) (bitAnd here enter) (Bits w) r a (and-in here enter a (sym (bit-lo w p a l) ∙ pa) t) l;
+        outs = λ a l t ba. ap (Bits w) (row-lo p a) ∙ word-use (2 * p) (bitAnd there leave) (Bits w) r₁ a (and-in there leave a (sym (bit-lo w b a l) ∙ ba) t) l;
+      })
+    where
+      here : ℕ
+      here = getD w (2 * p) 0
+
+      there : ℕ
+      there = getD w (2 * b) 0
+
+      enter : ℕ
+      enter = getD m b 0
+
+      leave : ℕ
+      leave = getD m (64 + b) 0
+
+  pub pair-open : {s s₁ s₂ : Set} → testBit (getD m (128 + b) 0) p ≡ true → Grown Moved Moved s s₁ → Grown (RowIn p b) (RowIn p b) s₁ s₂ → Grown (Nests m p b) (Nests m p b) s s₂
+  unfolding RowIn
+  pair-open t g h = chain (asked g (λ u i c. record { ins = c .ins; outs = c .outs })) h (λ u i c. c .opens t) (λ e r r₁. record { ins = r .ins; outs = r .outs; opens = λ _. r₁ })
+
+  pub pair-shut : {s s₁ : Set} → testBit (getD m (128 + b) 0) p ≡ false → Grown Moved Moved s s₁ → Grown (Nests m p b) (Nests m p b) s s₁
+  pair-shut d g = recast g (λ u i c. record { ins = c .ins; outs = c .outs }) (λ r. record { ins = r .ins; outs = r .outs; opens = λ t. never _ t d })
 
 -- ---- a loop over the bits of b, of which `rest` are left
 
@@ -97,232 +135,169 @@ module _ (P : ℕ → Set → Type 0) (b : ℕ) where
 pub left-sub : (b rest : ℕ) → ((x : ℕ) → testBit rest x ≡ true → testBit b x ≡ true) → (x : ℕ) → testBit (bitAnd rest (rest - 1)) x ≡ true → testBit b x ≡ true
 left-sub b rest i x t = i x (and-l rest (rest - 1) x t)
 
--- ---- nothing to add
+-- ---- a row
 
-pub enter-empty : (a b : ℕ) (s : Set) → a ≡ 0 → Grown (Enters a b) (Enters a b) s s
-unfolding Enters Admits
-enter-empty a b s e = grown-none (λ k h t x t′. never _ t′ (ap (λ (y : ℕ). testBit y x) e ∙ zero-bit x))
+-- the rows of a pair
+abbrev pub Either : ℕ → ℕ → ℕ → Type 0
+Either p b x = (x ≡ p) ⊎ (x ≡ b)
 
-pub leave-empty : (a b : ℕ) (s : Set) → a ≡ 0 → Grown (Leaves a b) (Leaves a b) s s
-unfolding Leaves Admits
-leave-empty a b s e = grown-none (λ k h t x t′. never _ t′ (ap (λ (y : ℕ). testBit y x) e ∙ zero-bit x))
+-- what the rules of row q read: row q itself and the rows in it
+abbrev pub Reads : List ℕ → ℕ → ℕ → Type 0
+Reads w q r = (r ≡ q) ⊎ (testBit (getD w (2 * q) 0) r ≡ true)
 
--- ---- out of b
+-- one of them, which is a label
+abbrev pub ReadBelow : List ℕ → ℕ → ℕ → Type 0
+ReadBelow w q r = (r < 64) × Reads w q r
 
-abbrev pub LeavesAt : ℕ → ℕ → ℕ → Set → Type 0
-LeavesAt a b p u = I u p b → Admits a p b u
+-- the rows of a pair of p are among them
+pub read-pair : (w : List ℕ) (p b : ℕ) → p < 64 → b < 64 → testBit (getD w (2 * p) 0) b ≡ true → (x : ℕ) → Either p b x → ReadBelow w p x
+read-pair w p b hp hb t x s = ⊎-elim (λ e. (omega arith, inl e)) (λ e. (omega arith, inr (ap (testBit (getD w (2 * p) 0)) e ∙ t))) s
 
-module _ (a b p : ℕ) (w : List ℕ) {s : Set} (hb : b < 64) (g : Grown (Leaves a b) (Below (LeavesAt a b) p) s (Bits w)) where
-  has-b : Bits w (128 * p + b) ≡ testBit (getD w (2 * p) 0) b
-  has-b = at-word w (2 * p) b (128 * p + b) hb (row-lo p b)
+pub visit-grown : (m w w′ : List ℕ) (p : ℕ) → Grown (All (Nests m p) (getD w (2 * p) 0)) (All (Nests m p) (getD w (2 * p) 0)) (Bits w) (Bits w′) → Grown (Row m p) (Row m p) (Bits w) (Bits w′)
+unfolding Row
+visit-grown m w w′ p g = recast g (λ u i f k h t. f k h (i (128 * p + k) (bit-lo w p k h ∙ t))) (λ r b h t. r b h (sym (bit-lo w p b h) ∙ t))
 
-  pub leave-yes : {s₂ : Set} → p < 64 → testBit (getD w (2 * p) 0) b ≡ true → Grown (Admits a p b) (Admits a p b) (Bits w) s₂ → Grown (Leaves a b) (Below (LeavesAt a b) (p + 1)) s s₂
-  unfolding Leaves
-  leave-yes hp e h = loop-next (LeavesAt a b) p g h (λ u i c. c p hp (i (128 * p + b) (has-b ∙ e))) (λ _ r _. r)
+-- a label in p's row at the start is in it at the end
+pub visit-reads : (w w′ : List ℕ) (p : ℕ) {x : ℕ} → Inside (Bits w) (Bits w′) → ReadBelow w p x → Reads w′ p x
+visit-reads w w′ p {x} i r = ⊎-elim (λ e. inl e) (λ t. inr (sym (bit-lo w′ p x (r .0)) ∙ i (128 * p + x) (bit-lo w p x (r .0) ∙ t))) (r .1)
 
-  pub leave-no : testBit (getD w (2 * p) 0) b ≡ false → Grown (Leaves a b) (Below (LeavesAt a b) (p + 1)) s (Bits w)
-  leave-no d = loop-skip (LeavesAt a b) p g (λ e t. never _ (sym has-b ∙ g .keeps (128 * p + b) t) d)
+-- ---- what has not changed
 
-pub leave-end : (a b p : ℕ) {s s₁ : Set} → p ≡ 64 → Grown (Leaves a b) (Below (LeavesAt a b) p) s s₁ → Grown (Leaves a b) (Leaves a b) s s₁
-unfolding Leaves Below
-leave-end a b p e g = loop-end (LeavesAt a b) 64 p e (λ u r. r) g
+-- row q reads no row of c
+unfoldable pub Quiet : ℕ → ℕ → List ℕ → Type 0
+Quiet c q w = (r : ℕ) → testBit c r ≡ true → Reads w q r → ⊥
 
--- ---- row b into row p
+-- row q has its rules, unless a row that it reads is in c
+unfoldable pub Owed : List ℕ → List ℕ → ℕ → ℕ → Type 0
+Owed m w c q = Quiet c q w → Row m q (Bits w)
 
--- row `from`, two words, added to row `to`
-unfoldable pub joined : List ℕ → ℕ → ℕ → List ℕ
-joined w to from = orAt (orAt w (2 * to) (getD w (2 * from) 0)) (2 * to + 1) (getD w (2 * from + 1) 0)
+-- c₁ has all of c₀
+abbrev pub Among : ℕ → ℕ → Type 0
+Among c₀ c₁ = (x : ℕ) → testBit c₀ x ≡ true → testBit c₁ x ≡ true
 
-module _ (w : List ℕ) (p b : ℕ) (l : length w ≡ 193) (hp : p < 64) (hb : b < 64) where
-  abbrev lo : ℕ
-  lo = getD w (2 * b) 0
+module _ {R : ℕ → Type 0} (m w w′ : List ℕ) (c : ℕ) (M : Marked R w w′ c) where
+  same-row : (r k : ℕ) → testBit c r ≡ false → k < 128 → Bits w′ (128 * r + k) ≡ Bits w (128 * r + k)
+  unfolding bitAt
+  same-row r k d l =
+      let e : (128 * r + k) / 64 / 2 ≡ r = omega arith in
+      ap (λ (y : ℕ). testBit y ((128 * r + k) % 64)) (M .rest ((128 * r + k) / 64) (ap (testBit c) e ∙ d))
 
-  abbrev hi : ℕ
-  hi = getD w (2 * b + 1) 0
+  module _ (q : ℕ) (h : q < 64) (d : Quiet c q w′) where
+    not-q : testBit c q ≡ false
+    unfolding Quiet
+    not-q = is-false _ (λ t. d q t (inl refl))
 
-  abbrev m₁ : List ℕ
-  m₁ = orAt w (2 * p) lo
+    same-word : getD w′ (2 * q) 0 ≡ getD w (2 * q) 0
+    same-word = let e : 2 * q / 2 ≡ q = omega arith in M .rest (2 * q) (ap (testBit c) e ∙ not-q)
 
-  abbrev RowIn : Set → Type 0
-  RowIn u = (k : ℕ) → k < 128 → I u b k → I u p k
-
-  bit-lo : (x : ℕ) → x < 64 → Bits w (128 * b + x) ≡ testBit lo x
-  bit-lo x h = at-word w (2 * b) x (128 * b + x) h (row-lo b x)
-
-  bit-hi : (x : ℕ) → x < 64 → Bits w (128 * b + (64 + x)) ≡ testBit hi x
-  bit-hi x h = at-word w (2 * b + 1) x (128 * b + (64 + x)) h (row-hi b x)
-
-  add-lo : Grown (Merges p b) (Word 64 (2 * p) lo) (Bits w) (Bits m₁)
-  unfolding Merges
-  add-lo =
-      recast (or-word 64 w (2 * p) lo (omega arith))
-      (λ u i c. word-make (2 * p) lo u (λ x t h. sym (ap u (row-lo p x)) ∙ c .0 x (omega arith) (i (128 * b + x) (bit-lo x h ∙ t))))
-      (λ r. r)
-
-  both : Word 64 (2 * p) lo (Bits w) → Word 64 (2 * p + 1) hi (Bits w) → RowIn (Bits w)
-  both r r₁ k h t = go (decLt k 64)
-    where
-      go : Dec (k < 64) → I (Bits w) p k
-      go (yes d) = ap (Bits w) (row-lo p k) ∙ word-use (2 * p) lo (Bits w) r k (sym (bit-lo k d) ∙ t) d
-      go (no d) =
-          let e : k ≡ 64 + (k - 64) = omega arith in
-          let g : k - 64 < 64 = omega arith in
-          ap (λ (y : ℕ). Bits w (128 * p + y)) e
-          ∙ ap (Bits w) (row-hi p (k - 64))
-          ∙ word-use (2 * p + 1) hi (Bits w) r₁ (k - 64) (sym (bit-hi (k - 64) g) ∙ ap (λ (y : ℕ). Bits w (128 * b + y)) (sym e) ∙ t) g
-
-  add-both : Grown (Merges p b) RowIn (Bits w) (Bits (joined w p b))
-  unfolding Merges joined
-  add-both =
-      chain add-lo (or-word 64 m₁ (2 * p + 1) hi (simp length-set (omega arith)))
-      (λ u i c. word-make (2 * p + 1) hi u (λ x t h. sym (ap u (row-hi p x))
-      ∙ c .0 (64 + x) (omega arith) (i (128 * b + (64 + x)) (add-lo .keeps (128 * b + (64 + x)) (bit-hi x h ∙ t)))))
-      (λ e r r₁. both r r₁)
-
-  merge-row : testBit (getD (joined w p b) 192 0) b ≡ false → Grown (Merges p b) (Merges p b) (Bits w) (Bits (joined w p b))
-  unfolding Merges
-  merge-row d = recast add-both (λ u i c. c) (λ r. (r, λ q. never _ (sym (suspect (joined w p b) b hb) ∙ add-both .keeps (12288 + b) q) d))
-
-  merge-both : testBit (getD (joined w p b) 192 0) b ≡ true → Grown (Merges p b) (Merges p b) (Bits w) (Bits (orAt (joined w p b) 192 ((1 * 2 ^ p) % 2 ^ 64)))
-  unfolding Merges joined
-  merge-both e =
-      chain add-both (or-word 64 (joined w p b) 192 ((1 * 2 ^ p) % 2 ^ 64) (simp length-set (omega arith)))
-      (λ u i c. word-make 192 ((1 * 2 ^ p) % 2 ^ 64) u (λ x t h.
-      let q : x ≡ p = eqb-true x p (sym (one-bit p x hp) ∙ t) in
-      ap (λ (y : ℕ). u (12288 + y)) q ∙ c .1 (i (12288 + b) (suspect (joined w p b) b hb ∙ e))))
-      (λ e r r₁. (r, λ _. word-use 192 ((1 * 2 ^ p) % 2 ^ 64) (Bits w) r₁ p (one-bit p p hp ∙ eq-eqb p p refl) hp))
-
-  -- v is the table with the row, v′ that with the suspect
-  module _ (v : List ℕ) (e : v ≡ joined w p b) where
-    pub merge-yes : (v′ : List ℕ) → testBit (getD v 192 0) b ≡ true → v′ ≡ orAt v 192 ((1 * 2 ^ p) % 2 ^ 64) → Grown (Merges p b) (Merges p b) (Bits w) (Bits v′)
-    merge-yes v′ t e′ = rw (e′, e) (merge-both (rw e at t))
-
-    pub merge-no : testBit (getD v 192 0) b ≡ false → Grown (Merges p b) (Merges p b) (Bits w) (Bits v)
-    merge-no t = rw e (merge-row (rw e at t))
-
--- ---- a column
-
-next-or : (x k : ℕ) → x < k + 1 → (x ≡ k) ⊎ (x < k)
-next-or x k l = eq-or-lt-of-le (le-of-suc-le-suc (subst (λ (y : ℕ). x < y) (add-one k) l))
-
-module _ (w : List ℕ) (first step off : ℕ) where
-  pub col-none : Column w first step off 0 0
-  col-none = record { has = λ k l t. absurd (not-suc-le-zero l); only = λ k t. never _ t (zero-bit k) }
-
-  abbrev hit : ℕ → Bool
-  hit k = testBit (getD w (first + step * k) 0) off
-
-  pub col-no : {k m : ℕ} → Column w first step off k m → hit k ≡ false → Column w first step off (k + 1) m
-  col-no {k} {m} c d = record {
-    has = λ x l t. ⊎-elim (λ e. never (hit k) (ap hit (sym e) ∙ t) d) (λ g. c .has x g t) (next-or x k l);
-    only = λ x t. let o = c .only x t in let l : x < k = o .0 in (omega arith, o .1);
-  }
-
-  pub col-yes : {k m : ℕ} → Column w first step off k m → k < 64 → hit k ≡ true → Column w first step off (k + 1) (bitOr m ((1 * 2 ^ k) % 2 ^ 64))
-  col-yes {k} {m} c h e = record {
-    has = λ x l t. or-bit m ((1 * 2 ^ k) % 2 ^ 64) x
-        ∙ ⊎-elim (λ p. or-right (testBit m x) (testBit ((1 * 2 ^ k) % 2 ^ 64) x) (one-bit k x h ∙ eq-eqb x k p)) (λ g. or-left (testBit m x) (testBit ((1 * 2 ^ k) % 2 ^ 64) x) (c .has x g t)) (next-or x k l);
-    only = λ x t. or-cases (testBit m x) (testBit ((1 * 2 ^ k) % 2 ^ 64) x) (sym (or-bit m ((1 * 2 ^ k) % 2 ^ 64) x) ∙ t)
-        (λ s. let o = c .only x s in let l : x < k = o .0 in (omega arith, o .1))
-        (λ s. let p : x ≡ k = eqb-true x k (sym (one-bit k x h) ∙ s) in (omega arith, ap hit p ∙ e));
-  }
-
--- ---- a turn, and the rule that it does
-
-module _ (w₀ w : List ℕ) (kind t m holders x : ℕ) (h₀ : 64 ≤ t) (h₁ : t < 128) (hx : x < 64)
-    (C : Column w₀ 1 2 (t - 64) 64 holders) (g : Inside (Bits w₀) (Bits w)) where
-  abbrev r : ℕ
-  r = getD w (2 * x) 0
-
-  -- what the words say of the cells, as they were at the start and in any set around the present one
-  of-col : (k : ℕ) → Bits w₀ (128 * k + t) ≡ testBit (getD w₀ (1 + 2 * k) 0) (t - 64)
-  of-col k = at-word w₀ (1 + 2 * k) (t - 64) (128 * k + t) (omega arith) (omega arith)
-
-  of-row : (k : ℕ) → k < 64 → Bits w (128 * x + k) ≡ testBit r k
-  of-row k h = at-word w (2 * x) k (128 * x + k) h (row-lo x k)
-
-  module _ (u : Set) (i : Inside (Bits w) u) where
-    col-in : (k : ℕ) → testBit holders k ≡ true → I u k t
-    col-in k s = i (128 * k + t) (g (128 * k + t) (of-col k ∙ C .only k s .1))
-
-    row-in : (k : ℕ) → k < 64 → testBit r k ≡ true → I u x k
-    row-in k h s = i (128 * x + k) (of-row k h ∙ s)
-
-    to-turn : Rule kind t m x u → Turn kind holders m r x u
-    unfolding InRule OutRule OpenRule Enters Leaves Opens Merges Admits
-    to-turn q = record {
-      ins = λ e b hb tb a ta ha. q .ins e a b ha hb (col-in a (and-r r holders a ta)) (row-in a ha (and-l r holders a ta)) (row-in b hb (and-l r m b tb)) (and-r r m b tb);
-      outs = λ e tx p hp pb a ta ha. q .outs e a p ha hp (col-in a (and-r r holders a ta)) (row-in a ha (and-l r holders a ta)) pb tx;
-      opens = λ e tx b hb tb. q .opens e b hb (col-in x tx) (row-in b hb (and-l r m b tb)) (and-r r m b tb);
+    frame : Row m q (Bits w) → Row m q (Bits w′)
+    unfolding Row Quiet
+    frame f b hb t = record {
+      ins = λ a l v s. back b a (omega arith) not-b (g .ins a l v (to q a (omega arith) not-q s));
+      outs = λ a l v s. back q a (omega arith) not-q (g .outs a l v (to b a (omega arith) not-b s));
+      opens = λ v k l s. back q k l not-q (g .opens v k l (to b k l not-b s));
     }
+      where
+        not-b : testBit c b ≡ false
+        not-b = is-false _ (λ s. d b s (inr (sym (bit-lo w′ q b hb) ∙ t)))
 
-  module _ (e : Bits w ≡ Bits w₀) where
-    has-row : (k : ℕ) → k < 64 → I (Bits w₀) x k → testBit r k ≡ true
-    has-row k h s = sym (of-row k h) ∙ ap (λ (z : Set). z (128 * x + k)) e ∙ s
+        to : (r k : ℕ) → k < 128 → testBit c r ≡ false → I (Bits w′) r k → I (Bits w) r k
+        to r k l e s = sym (same-row r k e l) ∙ s
 
-    has-col : (k : ℕ) → k < 64 → I (Bits w₀) k t → testBit holders k ≡ true
-    has-col k h s = C .has k h (sym (of-col k) ∙ s)
+        back : (r k : ℕ) → k < 128 → testBit c r ≡ false → I (Bits w) r k → I (Bits w′) r k
+        back r k l e s = same-row r k e l ∙ s
 
-    from-turn : Turn kind holders m r x (Bits w₀) → Rule kind t m x (Bits w₀)
-    unfolding InRule OutRule OpenRule Enters Leaves Opens Merges Admits
-    from-turn q = record {
-      ins = λ d a b ha hb at pa pb bn. q .ins d b hb (and-in r m b (has-row b hb pb) bn) a (and-in r holders a (has-row a ha pa) (has-col a ha at)) ha;
-      outs = λ d a p ha hp at ba pb bn. q .outs d bn p hp pb a (and-in r holders a (has-row a ha ba) (has-col a ha at)) ha;
-      opens = λ d b hb pt pb bn. q .opens d (has-col x hx pt) b hb (and-in r m b (has-row b hb pb) bn);
-    }
+        g : Nests m q b (Bits w)
+        g = f b hb (to q b (omega arith) not-q t)
 
-pub turn-more : (w₀ w : List ℕ) (kind t m holders x : ℕ) {s₂ : Set} → 64 ≤ t → t < 128 → x < 64 → Column w₀ 1 2 (t - 64) 64 holders →
-    Grown (Rules kind t m) (Below (Rule kind t m) x) (Bits w₀) (Bits w) →
-    Grown (Turn kind holders m (getD w (2 * x) 0) x) (Turn kind holders m (getD w (2 * x) 0) x) (Bits w) s₂ →
-    Grown (Rules kind t m) (Below (Rule kind t m) (x + 1)) (Bits w₀) s₂
-unfolding Rules
-turn-more w₀ w kind t m holders x h₀ h₁ hx C G h =
-    loop-next (Rule kind t m) x G h (λ u i c. to-turn w₀ w kind t m holders x h₀ h₁ hx C (G .keeps) u i (c x hx))
-    (λ e q. from-turn w₀ w kind t m holders x h₀ h₁ hx C (G .keeps) e q)
+  -- c₀ was owed for before, and c₁ has it and the rows that changed
+  pub owed-on : (q c₀ c₁ : ℕ) → q < 64 → Among c₀ c₁ → Among c c₁ → Owed m w c₀ q → Owed m w′ c₁ q
+  unfolding Owed Quiet
+  owed-on q c₀ c₁ h s s₁ o d =
+      let z : (r : ℕ) → testBit c r ≡ true → Reads w′ q r → ⊥ = λ r t. d r (s₁ r t) in
+      frame q h z (o (λ r t. ⊎-elim (λ e. d r (s r t) (inl e)) (λ v. d r (s r t) (inr (ap (λ (y : ℕ). testBit y r) (same-word q h z) ∙ v)))))
 
-pub turn-end : (kind t m x : ℕ) {s s₁ : Set} → x ≡ 64 → Grown (Rules kind t m) (Below (Rule kind t m) x) s s₁ → Grown (Rules kind t m) (Rules kind t m) s s₁
-unfolding Rules Below
-turn-end kind t m x e g = loop-end (Rule kind t m) 64 x e (λ u r. r) g
-
--- no partners: nothing to do
-pub rules-empty : (kind t m : ℕ) {s : Set} → m ≡ 0 → Grown (Rules kind t m) (Rules kind t m) s s
-unfolding Rules InRule OutRule OpenRule
-rules-empty kind t m {s} e = grown-none (λ x hx. record {
-  ins = λ d a b ha hb at pa pb bn. never _ bn (none b);
-  outs = λ d a p ha hp at ba pb bn. never _ bn (none x);
-  opens = λ d b hb pt pb bn. never _ bn (none b);
-})
-  where
-    none : (k : ℕ) → testBit m k ≡ false
-    none k = ap (λ (y : ℕ). testBit y k) e ∙ zero-bit k
-
--- ---- a turn, by kinds
-
-clash : {A : Type 0} (x m n : ℕ) → x ≡ m → x ≡ n → (m ≡ n → ⊥) → A
-clash x m n p q d = absurd (d (sym p ∙ q))
-
-module _ (kind holders m r x : ℕ) {s s₁ : Set} where
-  pub turn-in : kind ≡ 2 → Grown (Enters (bitAnd r holders) (bitAnd r m)) (Enters (bitAnd r holders) (bitAnd r m)) s s₁ → Grown (Turn kind holders m r x) (Turn kind holders m r x) s s₁
-  turn-in e g = recast g (λ u i c. c .ins e) (λ q. record { ins = λ _. q; outs = λ d. clash kind 2 3 e d (λ z. omega arith); opens = λ d. clash kind 2 4 e d (λ z. omega arith) })
-
-  pub turn-out : kind ≡ 3 → testBit m x ≡ true → Grown (Leaves (bitAnd r holders) x) (Leaves (bitAnd r holders) x) s s₁ → Grown (Turn kind holders m r x) (Turn kind holders m r x) s s₁
-  turn-out e t g = recast g (λ u i c. c .outs e t) (λ q. record { ins = λ d. clash kind 3 2 e d (λ z. omega arith); outs = λ _ _. q; opens = λ d. clash kind 3 4 e d (λ z. omega arith) })
-
-  pub turn-open : kind ≡ 4 → testBit holders x ≡ true → Grown (Opens x (bitAnd r m)) (Opens x (bitAnd r m)) s s₁ → Grown (Turn kind holders m r x) (Turn kind holders m r x) s s₁
-  turn-open e t g = recast g (λ u i c. c .opens e t) (λ q. record { ins = λ d. clash kind 4 2 e d (λ z. omega arith); outs = λ d. clash kind 4 3 e d (λ z. omega arith); opens = λ _ _. q })
-
-pub turn-none : (kind holders m r x : ℕ) {s : Set} → (kind ≡ 2 → ⊥) → (kind ≡ 3 → testBit m x ≡ false) → (kind ≡ 4 → testBit holders x ≡ false) →
-    Grown (Turn kind holders m r x) (Turn kind holders m r x) s s
-turn-none kind holders m r x d₂ d₃ d₄ = grown-none (record { ins = λ e. absurd (d₂ e); outs = λ e t. never _ t (d₃ e); opens = λ e t. never _ t (d₄ e) })
+-- a visit that changed nothing that it reads changed nothing
+pub owed-here : (m w w′ : List ℕ) (p c c₁ : ℕ) → Marked (Reads w′ p) w w′ c → Grown (Row m p) (Row m p) (Bits w) (Bits w′) → Among c c₁ → Owed m w′ c₁ p
+unfolding Owed Quiet bitAt
+owed-here m w w′ p c c₁ M g s d =
+    let e : Bits w′ ≡ Bits w = fun-ext (λ j. ap (λ (y : ℕ). testBit y (j % 64)) (M .rest (j / 64) (is-false _ (λ t. d (j / 64 / 2) (s _ t) (M .among _ t))))) in
+    subst (Row m p) (sym e) (g .done (λ j t. ap (λ (u : Set). u j) (sym e) ∙ t))
 
 -- ---- a pass
 
-module _ (n : ℕ) (partners : List ℕ) where
-  pub pass-next : (i : ℕ) {s s₁ s₂ : Set} → i < n → Grown (Closed n partners) (Below (RulesAt partners) i) s s₁ → Grown (RulesAt partners i) (RulesAt partners i) s₁ s₂ →
-      Grown (Closed n partners) (Below (RulesAt partners) (i + 1)) s s₂
-  unfolding Closed
-  pass-next i h g p = loop-next (RulesAt partners) i g p (λ u q c. c i h) (λ _ r. r)
+-- from w to w′ by the rules of m; what changed, and is still to be looked at, is in c
+pub record Passed (m w w′ : List ℕ) (c : ℕ) : Type 0 where
+  pub grown : Grown (Rows m) any (Bits w) (Bits w′)
+  pub marked : Marked (λ _. Unit {0}) w w′ c
+  pub owed : (q : ℕ) → q < 64 → Owed m w′ c q
 
-  pub pass-end : (i : ℕ) {s s₁ : Set} → i ≡ n → Grown (Closed n partners) (Below (RulesAt partners) i) s s₁ → Grown (Closed n partners) (Closed n partners) s s₁
-  unfolding Closed Below
-  pass-end i e g = loop-end (RulesAt partners) n i e (λ u r. r) g
+pub or-some : (a b x : ℕ) → (testBit a x ≡ true) ⊎ (testBit b x ≡ true) → testBit (bitOr a b) x ≡ true
+or-some a b x s = or-bit a b x ∙ ⊎-elim (λ t. or-left (testBit a x) (testBit b x) t) (λ t. or-right (testBit a x) (testBit b x) t) s
+
+-- the loop at row p: the rows before it owe what changed in this pass, all rows what changed in the two
+pub record Passing (m w₀ w : List ℕ) (before now p : ℕ) : Type 0 where
+  pub grown : Grown (Rows m) any (Bits w₀) (Bits w)
+  pub marked : Marked (λ _. Unit {0}) w₀ w now
+  pub fresh : (q : ℕ) → q < 64 → q < p → Owed m w now q
+  pub stale : (q : ℕ) → q < 64 → Owed m w (bitOr before now) q
+
+module _ (m w₀ : List ℕ) (before : ℕ) where
+  pub pass-none : ((q : ℕ) → q < 64 → Owed m w₀ before q) → Passing m w₀ w₀ before 0 0
+  unfolding any
+  pass-none o = record {
+    grown = grown-none tt;
+    marked = marked-none;
+    fresh = λ q h l. absurd (not-suc-le-zero l);
+    stale = λ q h. owed-on m w₀ w₀ 0 (marked-none {R = λ _. Unit {0}}) q before (bitOr before 0) h (λ x t. or-some before 0 x (inl t)) (λ x t. or-some before 0 x (inr t)) (o q h);
+  }
+
+  module _ (w : List ℕ) (now p : ℕ) (h : p < 64) (P : Passing m w₀ w before now p) where
+    pub pass-visit : (w′ : List ℕ) (c : ℕ) → Grown (Row m p) (Row m p) (Bits w) (Bits w′) → Marked (Reads w′ p) w w′ c → Passing m w₀ w′ before (bitOr now c) (p + 1)
+    unfolding Rows any
+    pass-visit w′ c g M = record {
+      grown = chain (P .grown) g (λ u i f. f p h) (λ _ _ _. tt);
+      marked = marked-then (P .marked) M (λ x _. tt) (λ x _. tt);
+      fresh = λ q l n. ⊎-elim (λ e. subst (λ (y : ℕ). Owed m w′ (bitOr now c) y) (sym e) (owed-here m w w′ p c (bitOr now c) M g (λ x t. or-some now c x (inr t))))
+          (λ n. owed-on m w w′ c M q now (bitOr now c) l (λ x t. or-some now c x (inl t)) (λ x t. or-some now c x (inr t)) (P .fresh q l n)) (last-or q p n);
+      stale = λ q l. owed-on m w w′ c M q (bitOr before now) (bitOr before (bitOr now c)) l
+          (λ x t. or-cases (testBit before x) (testBit now x) (sym (or-bit before now x) ∙ t) (λ s. or-some before (bitOr now c) x (inl s)) (λ s. or-some before (bitOr now c) x (inr (or-some now c x (inl s)))))
+          (λ x t. or-some before (bitOr now c) x (inr (or-some now c x (inr t)))) (P .stale q l);
+    }
+
+    -- a row that reads nothing that changed has its rules
+    pub pass-skip : bitAnd (bitOr before now) (bitOr (getD w (2 * p) 0) ((1 * 2 ^ p) % 2 ^ 64)) ≡ 0 → Passing m w₀ w before now (p + 1)
+    unfolding Owed Quiet
+    pass-skip e = record {
+      grown = P .grown;
+      marked = P .marked;
+      fresh = λ q l n. ⊎-elim (λ d _. subst (λ (y : ℕ). Row m y (Bits w)) (sym d) (P .stale p h quiet)) (λ n. P .fresh q l n) (last-or q p n);
+      stale = P .stale;
+    }
+      where
+        quiet : (r : ℕ) → testBit (bitOr before now) r ≡ true → Reads w p r → ⊥
+        quiet r t s = never {C = ⊥} _ (and-in (bitOr before now) (bitOr (getD w (2 * p) 0) ((1 * 2 ^ p) % 2 ^ 64)) r t
+            (or-some (getD w (2 * p) 0) ((1 * 2 ^ p) % 2 ^ 64) r (⊎-elim (λ d. inr (one-bit p r h ∙ eq-eqb r p d)) (λ v. inl v) s))) (ap (λ (y : ℕ). testBit y r) e ∙ zero-bit r)
+
+  pub pass-end : (w : List ℕ) (now p : ℕ) → p ≡ 64 → Passing m w₀ w before now p → Passed m w₀ w now
+  pass-end w now p e P = record { grown = P .grown; marked = P .marked; owed = λ q h. P .fresh q h (subst (λ (y : ℕ). q < y) (sym e) h) }
+
+-- ---- passes until nothing changes
+
+-- a set of all labels
+pub all-bits : (k : ℕ) → k < 64 → testBit 18446744073709551615 k ≡ true
+unfolding testBit every
+all-bits k h = every-use (λ k. true) (λ k. testBit 18446744073709551615 k) 64 refl k h refl
+
+pub all-owed : (m w : List ℕ) (q : ℕ) → q < 64 → Owed m w 18446744073709551615 q
+unfolding Owed Quiet
+all-owed m w q h d = absurd (d q (all-bits q h) (inl refl))
+
+pub settle-on : {m w w′ : List ℕ} {c : ℕ} {s : Set} → Grown (Rows m) any s (Bits w) → Passed m w w′ c → Grown (Rows m) any s (Bits w′)
+unfolding any
+settle-on g P = chain g (P .grown) (λ u i f. f) (λ _ _ _. tt)
+
+pub settle-end : {m w w′ : List ℕ} {c : ℕ} {s : Set} → Grown (Rows m) any s (Bits w) → Passed m w w′ c → c ≡ 0 → Smallest (Rows m) s (Bits w′)
+unfolding Rows Owed Quiet
+settle-end {s = s} g P e = let s = settle-on {s = s} g P in
+    record { keeps = s .keeps; inside = s .inside; closed = λ p h. P .owed p h (λ r t _. true≢false (sym t ∙ ap (λ (y : ℕ). testBit y r) e ∙ zero-bit r)) }

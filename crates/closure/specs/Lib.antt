@@ -1,6 +1,10 @@
--- The rules as word operations, and what growth towards the least closed set owes.
+-- The table's rules by movers, words as sets of bits, and what the word operations do to the table.
 pub mod Cells
-pub mod Total
 pub mod Lowest
+pub mod Total
 pub mod Rules
+pub mod Adds
+pub mod Marks
 pub mod Laws
+pub mod Spread
+pub mod Rounds

@@ -1,13 +1,14 @@
--- The table's rules on the set of its bits, with the capabilities of one kind and label folded into one word of
--- partners: m has the labels that bear a name which some capability of this kind and label t aims at.
+-- The table's rules on the set of its bits, twice: by the capabilities that may act, and folded into words of movers.
+-- Kinds are 0 in, 1 out, 2 open. Word 64 * kind + t of partners has the labels that bear a name which some capability
+-- of this kind and label 64 + t aims at.
 use Prim.Native.Nat.{_%_, _*_, _+_, _/_, _<_, ℕ}
-use lib.Bits.{bitAnd}
 use lib.ListN.{getD}
 use mathlib.Core.Bool.{Bool, true}
 use mathlib.Core.List.{List}
-use mathlib.Core.Path.{_≡_}
+use mathlib.Core.Path.{_∙_, _≡_, ap₂, sym}
+use native.Mathlib.Omega.{arith}
 use Rattle.model.specs.Tables.{testBit}
-use Rattle.tables.specs.Grow.{Set}
+use Rattle.tables.specs.Grow.{Inside, Set}
 
 -- (a, k) in I; k in S
 abbrev pub I : Set → ℕ → ℕ → Type 0
@@ -16,65 +17,117 @@ I u a k = u (128 * a + k) ≡ true
 abbrev pub S : Set → ℕ → Type 0
 S u k = u (12288 + k) ≡ true
 
--- in, for one p
-unfoldable pub InRule : ℕ → ℕ → ℕ → Set → Type 0
-InRule t m p u = (a b : ℕ) → a < 64 → b < 64 → I u a t → I u p a → I u p b → testBit m b ≡ true → I u b a × (S u b → S u a)
+-- the rules of in, out and open, where b bears what the capability of label 64 + t aims at
+pub record Closed (partners : List ℕ) (u : Set) : Type 0 where
+  pub ins : (t a b p : ℕ) → t < 64 → a < 64 → b < 64 → p < 64 → I u a (64 + t) → I u p a → I u p b → testBit (getD partners t 0) b ≡ true → I u b a × (S u b → S u a)
+  pub outs : (t a b p : ℕ) → t < 64 → a < 64 → b < 64 → p < 64 → I u a (64 + t) → I u b a → I u p b → testBit (getD partners (64 + t) 0) b ≡ true → I u p a × (S u b → S u a)
+  pub opens : (t b p : ℕ) → t < 64 → b < 64 → p < 64 → I u p (64 + t) → I u p b → testBit (getD partners (128 + t) 0) b ≡ true → ((k : ℕ) → k < 128 → I u b k → I u p k) × (S u b → S u p)
 
--- out, for one b
-unfoldable pub OutRule : ℕ → ℕ → ℕ → Set → Type 0
-OutRule t m b u = (a p : ℕ) → a < 64 → p < 64 → I u a t → I u b a → I u p b → testBit m b ≡ true → I u p a × (S u b → S u a)
+-- ---- movers: word 64 * kind + b has the labels in which some capability of this kind may stand that aims at b
 
--- open, for one p
-unfoldable pub OpenRule : ℕ → ℕ → ℕ → Set → Type 0
-OpenRule t m p u = (b : ℕ) → b < 64 → I u p t → I u p b → testBit m b ≡ true → ((k : ℕ) → k < 128 → I u b k → I u p k) × (S u b → S u p)
+-- a is in word j, by the capability of label 64 + t
+pub record Moves (partners : List ℕ) (u : Set) (j a : ℕ) : Type 0 where
+  pub word : j < 192
+  pub label : a < 64
+  pub t : ℕ
+  pub below : t < 64
+  pub stands : I u a (64 + t)
+  pub aims : testBit (getD partners (64 * (j / 64) + t) 0) (j % 64) ≡ true
 
--- the rule of a kind, for one place x: p for in and open, b for out
-pub record Rule (kind t m x : ℕ) (u : Set) : Type 0 where
-  pub ins : kind ≡ 2 → InRule t m x u
-  pub outs : kind ≡ 3 → OutRule t m x u
-  pub opens : kind ≡ 4 → OpenRule t m x u
+-- the words m have no other movers than those of u; they have all of them
+unfoldable pub Sound : List ℕ → Set → List ℕ → Type 0
+Sound partners u m = (j a : ℕ) → testBit (getD m j 0) a ≡ true → Moves partners u j a
 
-unfoldable pub Rules : ℕ → ℕ → ℕ → Set → Type 0
-Rules kind t m u = (x : ℕ) → x < 64 → Rule kind t m x u
+unfoldable pub Complete : List ℕ → Set → List ℕ → Type 0
+Complete partners u m = (j a : ℕ) → Moves partners u j a → testBit (getD m j 0) a ≡ true
 
--- the rules of the words of partners: word i is that of kind 2 + i / 64 and label 64 + i % 64
-abbrev pub RulesAt : List ℕ → ℕ → Set → Type 0
-RulesAt partners i u = Rules (2 + i / 64) (64 + i % 64) (getD partners i 0) u
+-- ---- the rules by movers, for b in row p
 
--- the rules of the first n words
-unfoldable pub Closed : ℕ → List ℕ → Set → Type 0
-Closed n partners u = (i : ℕ) → i < n → RulesAt partners i u
+-- what they ask of I
+pub record Nests (m : List ℕ) (p b : ℕ) (u : Set) : Type 0 where
+  pub ins : (a : ℕ) → a < 64 → testBit (getD m b 0) a ≡ true → I u p a → I u b a
+  pub outs : (a : ℕ) → a < 64 → testBit (getD m (64 + b) 0) a ≡ true → I u b a → I u p a
+  pub opens : testBit (getD m (128 + b) 0) p ≡ true → (k : ℕ) → k < 128 → I u b k → I u p k
 
--- ---- what the word operations establish
+-- what they ask of S, if b is suspect
+pub record Taints (m : List ℕ) (p b : ℕ) (u : Set) : Type 0 where
+  pub ins : (a : ℕ) → a < 64 → testBit (getD m b 0) a ≡ true → I u p a → S u a
+  pub outs : (a : ℕ) → a < 64 → testBit (getD m (64 + b) 0) a ≡ true → I u b a → S u a
+  pub opens : testBit (getD m (128 + b) 0) p ≡ true → S u p
 
--- row k has the labels of a, and if s is suspect so are they
-unfoldable pub Admits : ℕ → ℕ → ℕ → Set → Type 0
-Admits a k s u = (x : ℕ) → testBit a x ≡ true → x < 64 → I u k x × (S u s → S u x)
+-- of I, for all of row p; for all rows; and of S
+unfoldable pub Row : List ℕ → ℕ → Set → Type 0
+Row m p u = (b : ℕ) → b < 64 → I u p b → Nests m p b u
 
-unfoldable pub Enters : ℕ → ℕ → Set → Type 0
-Enters a b u = (k : ℕ) → k < 64 → testBit b k ≡ true → Admits a k k u
+unfoldable pub Rows : List ℕ → Set → Type 0
+Rows m u = (p : ℕ) → p < 64 → Row m p u
 
-unfoldable pub Leaves : ℕ → ℕ → Set → Type 0
-Leaves a b u = (p : ℕ) → p < 64 → I u p b → Admits a p b u
-
-unfoldable pub Merges : ℕ → ℕ → Set → Type 0
-Merges p b u = ((k : ℕ) → k < 128 → I u b k → I u p k) × (S u b → S u p)
-
-unfoldable pub Opens : ℕ → ℕ → Set → Type 0
-Opens p b u = (k : ℕ) → k < 64 → testBit b k ≡ true → Merges p k u
-
--- a turn: r is row x, its holders those in the column of the capability's label
-pub record Turn (kind holders m r x : ℕ) (u : Set) : Type 0 where
-  pub ins : kind ≡ 2 → Enters (bitAnd r holders) (bitAnd r m) u
-  pub outs : kind ≡ 3 → testBit m x ≡ true → Leaves (bitAnd r holders) x u
-  pub opens : kind ≡ 4 → testBit holders x ≡ true → Opens x (bitAnd r m) u
-
--- m has the numbers k below n where word first + step * k has bit off
-pub record Column (w : List ℕ) (first step off n m : ℕ) : Type 0 where
-  pub has : (k : ℕ) → k < n → testBit (getD w (first + step * k) 0) off ≡ true → testBit m k ≡ true
-  pub only : (k : ℕ) → testBit m k ≡ true → (k < n) × (testBit (getD w (first + step * k) 0) off ≡ true)
+unfoldable pub Suspects : List ℕ → Set → Type 0
+Suspects m u = (p b : ℕ) → p < 64 → b < 64 → I u p b → S u b → Taints m p b u
 
 -- a test's answer, and what it decides
 pub record Decides (r : Bool) (P : Type 0) : Type 0 where
   pub holds : r ≡ true → P
   pub passes : P → r ≡ true
+
+-- ---- the two are the same
+
+-- the capability by which a is in word j, that of kind k and partner b, has word i
+at-kind : {partners : List ℕ} {u : Set} {a j : ℕ} (k b i : ℕ) (v : Moves partners u j a) → b < 64 → j ≡ 64 * k + b → i ≡ 64 * k + v .t → testBit (getD partners i 0) b ≡ true
+at-kind {partners} {j = j} k b i v h e f =
+    let q : 64 * (j / 64) + v .t ≡ i = omega arith in
+    let r : j % 64 ≡ b = omega arith in
+    sym (ap₂ (λ (x y : ℕ). testBit (getD partners x 0) y) q r) ∙ v .aims
+
+by-kind : {partners : List ℕ} {u : Set} {a : ℕ} (k b t j i : ℕ) → k < 3 → b < 64 → a < 64 → t < 64 → j ≡ 64 * k + b → i ≡ 64 * k + t → I u a (64 + t) → testBit (getD partners i 0) b ≡ true → Moves partners u j a
+by-kind {partners} k b t j i hk hb ha ht e f s d =
+    let q : 64 * (j / 64) + t ≡ i = omega arith in
+    let r : j % 64 ≡ b = omega arith in
+    record { word = omega arith; label = ha; t = t; below = ht; stands = s; aims = ap₂ (λ (x y : ℕ). testBit (getD partners x 0) y) q r ∙ d }
+
+module _ (partners : List ℕ) (u : Set) (m : List ℕ) where
+  module _ (c : Closed partners u) (f : Sound partners u m) (p b : ℕ) (hp : p < 64) (hb : b < 64) (pb : I u p b) where
+    of-in : (a : ℕ) → a < 64 → testBit (getD m b 0) a ≡ true → I u p a → I u b a × (S u b → S u a)
+    unfolding Sound
+    of-in a ha t pa = let v = f b a t in c .ins (v .t) a b p (v .below) ha hb hp (v .stands) pa pb (at-kind 0 b (v .t) v hb (omega arith) (omega arith))
+
+    of-out : (a : ℕ) → a < 64 → testBit (getD m (64 + b) 0) a ≡ true → I u b a → I u p a × (S u b → S u a)
+    unfolding Sound
+    of-out a ha t ba = let v = f (64 + b) a t in c .outs (v .t) a b p (v .below) ha hb hp (v .stands) ba pb (at-kind 1 b (64 + v .t) v hb (omega arith) (omega arith))
+
+    of-open : testBit (getD m (128 + b) 0) p ≡ true → ((k : ℕ) → k < 128 → I u b k → I u p k) × (S u b → S u p)
+    unfolding Sound
+    of-open t = let v = f (128 + b) p t in c .opens (v .t) b p (v .below) hb hp (v .stands) pb (at-kind 2 b (128 + v .t) v hb (omega arith) (omega arith))
+
+  -- a closed set has the rules of movers that are its own
+  pub closed-rows : Closed partners u → Sound partners u m → Rows m u
+  unfolding Rows Row
+  closed-rows c f p hp b hb pb = record {
+    ins = λ a ha t pa. of-in c f p b hp hb pb a ha t pa .0;
+    outs = λ a ha t ba. of-out c f p b hp hb pb a ha t ba .0;
+    opens = λ t. of-open c f p b hp hb pb t .0;
+  }
+
+  pub closed-suspects : Closed partners u → Sound partners u m → Suspects m u
+  unfolding Suspects
+  closed-suspects c f p b hp hb pb s = record {
+    ins = λ a ha t pa. of-in c f p b hp hb pb a ha t pa .1 s;
+    outs = λ a ha t ba. of-out c f p b hp hb pb a ha t ba .1 s;
+    opens = λ t. of-open c f p b hp hb pb t .1 s;
+  }
+
+  -- and a set with the rules of all its movers is closed
+  pub movers-closed : Complete partners u m → Rows m u → Suspects m u → Closed partners u
+  unfolding Rows Row Suspects Complete
+  movers-closed f r s = record {
+    ins = λ t a b p ht ha hb hp at pa pb e. let v = f b a (by-kind 0 b t b t (omega arith) hb ha ht (omega arith) (omega arith) at e) in
+        (r p hp b hb pb .ins a ha v pa, λ q. s p b hp hb pb q .ins a ha v pa);
+    outs = λ t a b p ht ha hb hp at ba pb e. let v = f (64 + b) a (by-kind 1 b t (64 + b) (64 + t) (omega arith) hb ha ht (omega arith) (omega arith) at e) in
+        (r p hp b hb pb .outs a ha v ba, λ q. s p b hp hb pb q .outs a ha v ba);
+    opens = λ t b p ht hb hp pt pb e. let v = f (128 + b) p (by-kind 2 b t (128 + b) (128 + t) (omega arith) hb hp ht (omega arith) (omega arith) pt e) in
+        (r p hp b hb pb .opens v, λ q. s p b hp hb pb q .opens v);
+  }
+
+  pub sound-on : (u′ : Set) → Inside u u′ → Sound partners u m → Sound partners u′ m
+  unfolding Sound
+  sound-on u′ i f j a t = let v = f j a t in record { word = v .word; label = v .label; t = v .t; below = v .below; stands = i (128 * a + (64 + v .t)) (v .stands); aims = v .aims }

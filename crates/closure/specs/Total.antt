@@ -1,20 +1,21 @@
 -- The one bits of a list of words, counted.
-use Prim.Native.Nat.{_*_, _+_, _<_, _≤_, suc, zero-le, ℕ}
+use Prim.Native.Nat.{_*_, _+_, _<_, _≤_, suc, zero, zero-le, ℕ}
 use lib.Arith.{digits-div, digits-mod}
 use lib.Count.{ones, ones-le}
 use lib.ListN.{drop, getD, length}
 use lib.Seq.{drop-cons, drop-length}
 use mathlib.Core.Bool.{true, true≢false}
 use mathlib.Core.List.{List, [], _∷_}
-use mathlib.Core.Path.{_∙_, _≡_, ap, ap₂, refl, subst, sym}
+use mathlib.Core.Logic.{⊎-elim}
+use mathlib.Core.Path.{_∙_, _≡_, ap, ap₂, refl, sym}
 use native.Mathlib.Decide.{decLt}
-use native.Mathlib.Nat.{le-refl, suc-inj, suc-mul, suc-ne-zero}
+use native.Mathlib.Nat.{eq-or-lt-of-le, le-of-suc-le-suc, le-refl, not-suc-le-zero, suc-inj, suc-mul, suc-ne-zero}
 use native.Mathlib.Numerals.{add-one}
 use native.Mathlib.Omega.{arith}
 use Rattle.model.specs.Laws.Bit.{Fewer, fewer, high-bit}
 use Rattle.model.specs.Laws.Sets.{Narrow}
 use Rattle.model.specs.Tables.{bitAt, testBit, total}
-use Rattle.tables.specs.Grow.{Grown, Inside, Set}
+use Rattle.tables.specs.Grow.{Inside}
 
 pub total-le : (m : ℕ) (xs : List ℕ) → Narrow m xs → total xs ≤ length xs * m
 unfolding total
@@ -67,16 +68,40 @@ pub total-end : (w : List ℕ) (i : ℕ) → i ≡ length w → total (drop i w)
 unfolding total
 total-end w i e = ap (λ (k : ℕ). total (drop k w)) e ∙ ap total (drop-length w)
 
--- a growth leaves the count as it was exactly where the property held
-module _ {F : Set → Type 0} (m : ℕ) (w w′ : List ℕ) (l : length w ≡ length w′) (h : Narrow m w) (h′ : Narrow m w′) (g : Grown F F (bitAt m w) (bitAt m w′)) where
-  pub unchanged-use : total w′ ≡ total w → F (bitAt m w)
-  unchanged-use q =
-      let s : w ≡ w′ = less-bits m w w′ l h h′ (g .keeps) .all (omega arith) in
-      g .done (subst (λ (y : List ℕ). Inside (bitAt m y) (bitAt m w)) s (λ j t. t))
+-- ---- the capability labels in I, which stand in the odd words
 
-  pub unchanged-make : F (bitAt m w) → total w′ ≡ total w
-  unchanged-make f =
-      let back : Inside (bitAt m w′) (bitAt m w) = g .inside (bitAt m w) (λ j t. t) f in
-      let p = less-bits m w w′ l h h′ (g .keeps) .le in
-      let q = less-bits m w′ w (sym l) h′ h back .le in
-      omega arith
+-- those of the first n rows
+unfoldable pub held : List ℕ → ℕ → ℕ
+held w zero = 0
+held w (suc n) = held w n + ones (getD w (1 + 2 * n) 0)
+
+pub held-next : (w : List ℕ) (n : ℕ) → held w (n + 1) ≡ held w n + ones (getD w (1 + 2 * n) 0)
+unfolding held
+held-next w n = ap (held w) (add-one n)
+
+pub held-none : (w : List ℕ) → held w 0 ≡ 0
+unfolding held
+held-none w = refl
+
+pub held-le : (w : List ℕ) (n : ℕ) → Narrow 64 w → held w n ≤ 64 * n
+unfolding held
+held-le w zero h = le-refl 0
+held-le w (suc n) h = let a = held-le w n h in let b = ones-le 64 (getD w (1 + 2 * n) 0) (h (1 + 2 * n)) in omega arith
+
+pub record Held (w w′ : List ℕ) (n : ℕ) : Type 0 where
+  pub le : held w n ≤ held w′ n
+  pub all : held w′ n ≤ held w n → (k : ℕ) → k < n → getD w (1 + 2 * k) 0 ≡ getD w′ (1 + 2 * k) 0
+
+-- a table that has grown has no fewer, and the same ones where it has as many
+pub held-less : (w w′ : List ℕ) → Narrow 64 w → Narrow 64 w′ → Inside (bitAt 64 w) (bitAt 64 w′) → (n : ℕ) → Held w w′ n
+unfolding held
+held-less w w′ h h′ s zero = record { le = le-refl 0; all = λ _ k l. absurd (not-suc-le-zero l) }
+held-less w w′ h h′ s (suc n) =
+    let r : Held w w′ n = held-less w w′ h h′ s n in
+    let f : Fewer (getD w (1 + 2 * n) 0) (getD w′ (1 + 2 * n) 0) = fewer 64 (getD w (1 + 2 * n) 0) (getD w′ (1 + 2 * n) 0) (h (1 + 2 * n)) (h′ (1 + 2 * n)) (words 64 w w′ h s (1 + 2 * n)) in
+    let a : held w n ≤ held w′ n = r .le in
+    let b : ones (getD w (1 + 2 * n) 0) ≤ ones (getD w′ (1 + 2 * n) 0) = f .le in
+    record {
+      le = omega arith;
+      all = λ g k l. ⊎-elim (λ e. ap (λ (x : ℕ). getD w (1 + 2 * x) 0) e ∙ f .all (omega arith) ∙ ap (λ (x : ℕ). getD w′ (1 + 2 * x) 0) (sym e)) (λ m. r .all (omega arith) k m) (eq-or-lt-of-le (le-of-suc-le-suc l));
+    }

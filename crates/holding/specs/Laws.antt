@@ -1,37 +1,42 @@
 -- The parts of the check make up when a table holds.
-use Prim.Native.Nat.{_%_, _*_, _+_, _-_, _/_, _<_, _≤_, ℕ}
-use borrow.Author.Tests.{eq-eqb, leb-true, ne-eqb}
-use lib.Bits.{bitOr}
+use Prim.Native.Nat.{_%_, _*_, _+_, _-_, _/_, _<_, _^_, _≤_, ℕ}
+use borrow.Author.Tests.{eq-eqb, eqb-true, leb-true, ne-eqb}
+use lib.Bits.{bitAnd, bitOr}
+use lib.Dec.{eqb}
 use lib.ListN.{drop, getD, length, take}
 use lib.Seq.{getD-drop, getD-take}
-use mathlib.Core.Bool.{Bool, _&&_, _||_, false, true, true≢false}
+use mathlib.Core.Bool.{Bool, false, true, true≢false}
 use mathlib.Core.List.{List}
-use mathlib.Core.Option.{some}
-use mathlib.Core.Path.{_∙_, _≡_, ap, ap₂, fun-ext, refl, subst, sym}
-use native.Mathlib.Numerals.{add-one}
+use mathlib.Core.Logic.{inl, inr}
+use mathlib.Core.Path.{_∙_, _≡_, ap, ap₂, refl, subst, sym}
+use native.Mathlib.Decide.{ℕ-discrete}
 use native.Mathlib.Omega.{arith}
-use Rattle.closure.specs.Cells.{Bits}
-use Rattle.closure.specs.Rules.{Closed, Decides}
-use Rattle.holding.specs.Tests.{nestsHold, opened, opensAt, opensHold, pairHolds, stood}
+use Rattle.closure.specs.Adds.{Adds, clear-sound, moves-complete, moves-sound}
+use Rattle.closure.specs.Cells.{Bits, and-in, and-l, and-r, below-64, suspect-bit}
+use Rattle.closure.specs.Laws.{bit-lo, or-some}
+use Rattle.closure.specs.Lowest.{Lowest}
+use Rattle.closure.specs.Rules.{Closed, Complete, Decides, Moves, Row, Rows, Sound, Suspects, closed-rows, closed-suspects, movers-closed}
+use Rattle.holding.specs.Tests.{Moving, Opening, Pair, PairsAt, Within, nestsHold, openHolds, stood}
 use Rattle.model.specs.Analysis.{free, holds, onlyIf}
-use Rattle.model.specs.Climbing.{container}
-use Rattle.model.specs.Finite.{every, someOf}
-use Rattle.model.specs.Laws.Bit.{or-bit, zero-bit}
+use Rattle.model.specs.Climbing.{container, nesting, view}
+use Rattle.model.specs.Finite.{every}
+use Rattle.model.specs.Laws.Bit.{or-bit, or-same, same-or, zero-bit}
 use Rattle.model.specs.Laws.Bytes.{length-records, valid-wf}
-use Rattle.model.specs.Laws.Checks.{and-make, bool-iff, onlyIf-make, onlyIf-use}
+use Rattle.model.specs.Laws.Checks.{and-make, bool-iff, onlyIf-make, onlyIf-use, or-cases}
 use Rattle.model.specs.Laws.Done.{cap-alive}
-use Rattle.model.specs.Laws.Finite.{every-make, every-use, someOf-make, someOf-use}
+use Rattle.model.specs.Laws.Finite.{every-make, every-use}
 use Rattle.model.specs.Laws.Holding.{holds-complete, holds-sound}
+use Rattle.model.specs.Laws.Sets.{Narrow}
 use Rattle.model.specs.Laws.WellFormed.{WellFormed, alive-in, amb-nested, and-left, and-right, label-small, shape, shape-label, shape-named}
-use Rattle.model.specs.Records.{at, cap-in, cap-open, cap-out, capability, count, decode, isAmbient, records}
+use Rattle.model.specs.Records.{at, count, decode, isAmbient, records}
 use Rattle.model.specs.Refusals.{pass}
-use Rattle.model.specs.Tables.{Table, bitAt, bits, isHigh, parts, placeH, placeI, testBit}
+use Rattle.model.specs.Tables.{Table, bitAt, bits, isHigh, parts, placeH, placeI, placeS, testBit}
 use Rattle.model.specs.Validity.{nameBy, nameRight, validity}
 use Rattle.model.specs.declared.Rec.{Rec}
 use Rattle.partners.specs.Facts.{AllRules, Facts, Wanted, bearing, nameCell, nestCell, standing}
-use Rattle.partners.specs.Fold.{Folds, slot}
-use Rattle.partners.specs.Laws.{RuleOf, cap-kind, cap-two, capable, closed-rule, kind-cap, kindOf, names, rules-closed, slot-kind, slot-label}
-use Rattle.partners.specs.Standing.{facts-holds, holds-facts, holds-rules, read-at}
+use Rattle.partners.specs.Fold.{Folds}
+use Rattle.partners.specs.Laws.{closed-rule, names, rules-closed}
+use Rattle.partners.specs.Standing.{contained, facts-holds, holds-facts, holds-rules, read-at}
 use Rattle.tables.specs.Bit.{is-false}
 use Rattle.tables.specs.Grow.{Set}
 
@@ -63,78 +68,45 @@ module _ (its : List Rec) (u : Set) where
   unfolding Wanted
   facts-highs {policy} f = every-make (isHigh policy) (parts u .S) 64 (f .highs)
 
--- ---- open
+-- ---- the rules by movers
 
-module _ {its : List Rec} (wf : WellFormed its) (u : Set) (p : List ℕ) (F : Folds its (parts u .H) (length its) p) where
-  open-use : opensHold (parts u) p ≡ true → (j : ℕ) → capability (at its j .kind) ≡ some cap-open → RuleOf its u cap-open j
-  unfolding opensHold opensAt opened pairHolds slot kindOf
-  open-use h j e = λ b q lb lq may iq iqb hb.
-      let two = cap-two _ cap-open e in
-      let able = capable (at its j) (wf .shaped j) two in
-      let k = cap-kind _ cap-open e in
-      let low = able .low in
-      let high = able .high in
-      let m : 64 + (at its j .label - 64) ≡ at its j .label = omega arith in
-      let i : 128 + (at its j .label - 64) ≡ slot (at its j) = omega arith in
-      let bit : testBit (getD p (128 + (at its j .label - 64)) 0) b ≡ true =
-      ap (λ (x : ℕ). testBit (getD p x 0) b) i ∙ F .has j (slot (at its j)) b (alive-in its j (cap-alive its j cap-open e)) (record { capable = two; here = refl; below = lb; names = hb }) in
-      let o : opened (parts u) p q b ≡ true =
-      someOf-make (λ t. parts u .I q (64 + t)) (λ t. testBit (getD p (128 + t) 0) b) 64 (at its j .label - 64) (omega arith) (ap (λ (x : ℕ). parts u .I q x) m ∙ iq) bit in
-      let w : pairHolds (parts u) q b ≡ true =
-      every-use (λ b. parts u .I q b && opened (parts u) p q b) (λ b. pairHolds (parts u) q b) 64
-      (every-use (λ p. true) (λ q. opensAt (parts u) (opened (parts u) p q) q) 64 h q lq refl) b lb (and-make iqb o) in
-      (every-use (λ k. parts u .I b k) (λ k. parts u .I q k) 128 (and-left _ _ w), onlyIf-use (parts u .S b) (parts u .S q) (and-right (every 128 (λ k. parts u .I b k) (λ k. parts u .I q k)) _ w))
+module _ (partners m : List ℕ) (u : Set) (sound : Sound partners u m) (complete : Complete partners u m) where
+  pairs-closed : ((p : ℕ) → p < 64 → PairsAt m u p) → Closed partners u
+  unfolding PairsAt Rows Row Suspects
+  pairs-closed f = movers-closed partners u m complete
+      (λ p hp b hb pb. let r = f p hp b hb pb in record { ins = λ a l t s. r .moves .ins a l t s .0; outs = λ a l t s. r .moves .outs a l t s .0; opens = λ t. r .opens t .0 })
+      (λ p b hp hb pb sb. let r = f p hp b hb pb in record { ins = λ a l t s. r .moves .ins a l t s .1 sb; outs = λ a l t s. r .moves .outs a l t s .1 sb; opens = λ t. r .opens t .1 sb })
 
-  open-make : AllRules its u → opensHold (parts u) p ≡ true
-  unfolding opensHold opensAt opened pairHolds kindOf
-  open-make f = every-make (λ p. true) (λ q. opensAt (parts u) (opened (parts u) p q) q) 64 (λ q lq _.
-      every-make (λ b. parts u .I q b && opened (parts u) p q b) (λ b. pairHolds (parts u) q b) 64 (λ b lb h.
-      let o = someOf-use (λ t. parts u .I q (64 + t)) (λ t. testBit (getD p (128 + t) 0) b) 64 (and-right (parts u .I q b) _ h) in
-      let t = o .0 in
-      let lt = o .1 in
-      let s = F .only (128 + t) b (o .3) in
-      let r = at its (s .from) in
-      let able = capable r (wf .shaped (s .from)) (s .aims .capable) in
-      let k = slot-kind r able (s .aims .capable) (128 + t) (s .aims .here) in
-      let l = slot-label r able (s .aims .capable) (128 + t) (s .aims .here) in
-      let e : r .kind ≡ 4 = omega arith in
-      let m : 64 + t ≡ r .label = omega arith in
-      let w = f (s .from) cap-open (kind-cap (r .kind) cap-open e) b q lb lq refl (ap (λ (x : ℕ). parts u .I q x) (sym m) ∙ o .2) (and-left _ _ h) (s .aims .names) in
-      and-make (every-make (λ k. parts u .I b k) (λ k. parts u .I q k) 128 (w .0)) (onlyIf-make (parts u .S b) (parts u .S q) (w .1))))
+  closed-pairs : Closed partners u → (p : ℕ) → p < 64 → PairsAt m u p
+  unfolding PairsAt Rows Row Suspects
+  closed-pairs c p hp b hb pb =
+      let r = closed-rows partners u m c sound p hp b hb pb in
+      let s = closed-suspects partners u m c sound p b hp hb pb in
+      record {
+        moves = record { ins = λ a l t q. (r .ins a l t q, λ sb. s sb .ins a l t q); outs = λ a l t q. (r .outs a l t q, λ sb. s sb .outs a l t q) };
+        opens = λ t. (r .opens t, λ sb. s sb .opens t);
+      }
 
-  pub rules-of : Closed 128 p u → opensHold (parts u) p ≡ true → AllRules its u
-  unfolding slot kindOf
-  rules-of c h j cap-in e =
-      let k = cap-kind _ cap-in e in
-      let a = capable (at its j) (wf .shaped j) (cap-two _ cap-in e) in
-      let x = a .high in
-      closed-rule wf (parts u .H) (length its) p F u (λ b n lb ln t. t) 128 c j cap-in (alive-in its j (cap-alive its j cap-in e)) e (omega arith)
-  rules-of c h j cap-out e =
-      let k = cap-kind _ cap-out e in
-      let a = capable (at its j) (wf .shaped j) (cap-two _ cap-out e) in
-      let x = a .high in
-      closed-rule wf (parts u .H) (length its) p F u (λ b n lb ln t. t) 128 c j cap-out (alive-in its j (cap-alive its j cap-out e)) e (omega arith)
-  rules-of c h j cap-open e = open-use h j e
+-- the answer of the rules' test: w is the table t in words, p its partners, m its movers, added to the clear words z
+pub rules-by : (s t w p z m : List ℕ) (r : Bool) → validity s ≡ pass → Bits w ≡ bits t → Folds (records s) (names w) (count s) p → ((i : ℕ) → getD z i 0 ≡ 0) →
+    Adds (Moves p (Bits w)) (Moves p (Bits w)) z m → Decides r ((q : ℕ) → q < 64 → PairsAt m (Bits w) q) → Decides r (AllRules (records s) (bits t))
+rules-by s t w p z m r v e F zero A d = subst (λ (x : Set). Decides r (AllRules (records s) x)) e (record {
+  holds = λ x j k q. closed-rule wf (names w) (length (records s)) p folded (Bits w) (λ b n lb ln h. h) (pairs-closed p m (Bits w) sound complete (d .holds x)) j k
+      (alive-in (records s) j (cap-alive (records s) j k q)) q;
+  passes = λ f. d .passes (closed-pairs p m (Bits w) sound complete (rules-closed wf (names w) (length (records s)) p folded (Bits w) (λ b n lb ln h. h) f));
+})
+  where
+    wf : WellFormed (records s)
+    wf = valid-wf s v
 
-  pub rules-opens : AllRules its u → opensHold (parts u) p ≡ true
-  rules-opens = open-make
+    folded : Folds (records s) (names w) (length (records s)) p
+    folded = subst (λ (n : ℕ). Folds (records s) (names w) n p) (sym (length-records s)) F
 
-  pub rules-words : AllRules its u → Closed 128 p u
-  rules-words f = rules-closed wf (parts u .H) (length its) p F u (λ b n lb ln t. t) 128 (λ j k e l. f j k e)
+    sound : Sound p (Bits w) m
+    sound = moves-sound p (Bits w) z m A (clear-sound p (Bits w) z zero)
 
--- the answer of the rules' test: w is the table t in words
-module _ (s t w p : List ℕ) (v : validity s ≡ pass) (e : Bits w ≡ bits t) (F : Folds (records s) (names w) (count s) p) where
-  folded : Folds (records s) (parts (bits t) .H) (length (records s)) p
-  folded = subst (λ (x : Set). Folds (records s) (parts x .H) (length (records s)) p) e (subst (λ (n : ℕ). Folds (records s) (names w) n p) (sym (length-records s)) F)
-
-  pub rules-no : opensHold (parts (bits t)) p ≡ false → Decides false (AllRules (records s) (bits t))
-  rules-no h = record { holds = λ x. absurd (true≢false (sym x)); passes = λ f. sym h ∙ rules-opens (valid-wf s v) (bits t) p folded f }
-
-  pub rules-by : (r : Bool) → opensHold (parts (bits t)) p ≡ true → Decides r (Closed 128 p (Bits w)) → Decides r (AllRules (records s) (bits t))
-  rules-by r h d = record {
-    holds = λ x. rules-of (valid-wf s v) (bits t) p folded (subst (λ (y : Set). Closed 128 p y) e (d .holds x)) h;
-    passes = λ f. d .passes (subst (λ (y : Set). Closed 128 p y) (sym e) (rules-words (valid-wf s v) (bits t) p folded f));
-  }
+    complete : Complete p (Bits w) m
+    complete = moves-complete p (Bits w) z m A
 
 -- ---- the whole
 
@@ -156,9 +128,9 @@ module _ (policy : List ℕ) (its : List Rec) (u : Set) where
 -- ---- what the loops of the tests find
 
 -- a record as it is read stands as its record does
-pub read-stood : (s : List ℕ) (v : validity s ≡ pass) (i : ℕ) (l : i + 1 ≤ count s) (r : Rec) (e : r ≡ decode s (i + 1)) (T : Table) (c : ℕ) → c ≡ container (records s) (i + 1) →
+pub read-stood : (s : List ℕ) (v : validity s ≡ pass) (i : ℕ) (l : i + 1 ≤ count s) (r : Rec) (e : r ≡ decode s (i + 1)) (T : Table) (c : ℕ) → c ≡ view nesting (records s) (r .parent) →
     stood T c r ≡ stood T (container (records s) (i + 1)) (at (records s) (i + 1))
-read-stood s v i l r e T c q = ap₂ (λ (x : ℕ) (y : Rec). stood T x y) q (read-at s v i l r e)
+read-stood s v i l r e T c q = ap₂ (λ (x : ℕ) (y : Rec). stood T x y) (contained s v i l r e c q) (read-at s v i l r e)
 
 -- an ambient of the right form
 pub ambient-form : (r : Rec) → shape r ≡ true → r .kind ≡ 1 → (r .label < 64) × (r .name < 64)
@@ -182,42 +154,6 @@ module _ (T : Table) (c : ℕ) (r : Rec) where
   pub stood-ambient : T .I c (r .label) ≡ true → r .kind ≡ 1 → T .H (r .label) (r .name) ≡ stood T c r
   unfolding stood isAmbient onlyIf
   stood-ambient h k = rw (h, eq-eqb (r .kind) 1 k)
-
--- some number, one by one
-module _ (t f : ℕ → Bool) (k : ℕ) where
-  either : (a s : Bool) → elim a [ true ↦ true | false ↦ s ] ≡ (s || a)
-  either true true = refl
-  either true false = refl
-  either false true = refl
-  either false false = refl
-
-  some-no : t k ≡ false → someOf k t f ≡ someOf (k + 1) t f
-  unfolding someOf
-  some-no e = sym (ap (λ (n : ℕ). someOf n t f) (add-one k) ∙ rw (e, someOf))
-
-  some-yes : t k ≡ true → (someOf k t f || f k) ≡ someOf (k + 1) t f
-  unfolding someOf
-  some-yes e = sym (ap (λ (n : ℕ). someOf n t f) (add-one k) ∙ rw (e, someOf) (either (f k) (someOf k t f)))
-
--- the labels found by the first t capabilities
-module _ (T : Table) (partners : List ℕ) (p : ℕ) where
-  abbrev pub Some : ℕ → ℕ → Bool
-  Some t b = someOf t (λ t. T .I p (64 + t)) (λ t. testBit (getD partners (128 + t) 0) b)
-
-  pub some-start : (b : ℕ) → testBit 0 b ≡ Some 0 b
-  unfolding someOf
-  some-start b = zero-bit b
-
-  module _ (t m : ℕ) (h : (b : ℕ) → testBit m b ≡ Some t b) where
-    pub some-skip : T .I p (64 + t) ≡ false → (b : ℕ) → testBit m b ≡ Some (t + 1) b
-    some-skip e b = h b ∙ some-no _ _ t e
-
-    pub some-add : T .I p (64 + t) ≡ true → (b : ℕ) → testBit (bitOr m (getD partners (128 + t) 0)) b ≡ Some (t + 1) b
-    some-add e b = or-bit m (getD partners (128 + t) 0) b ∙ ap (λ (x : Bool). x || testBit (getD partners (128 + t) 0) b) (h b) ∙ some-yes _ _ t e
-
-  pub some-end : (t m : ℕ) → t ≡ 64 → ((b : ℕ) → testBit m b ≡ Some t b) → (b : ℕ) → testBit m b ≡ opened T partners p b
-  unfolding opened
-  some-end t m e h b = h b ∙ ap (λ (n : ℕ). Some n b) e
 
 -- a row of a table, as the part that is lent
 module _ (t : List ℕ) (b : ℕ) where
@@ -244,20 +180,113 @@ pub rows-inside : (t : List ℕ) (b p : ℕ) →
 rows-inside t b p = rows-same t b p (16 * b + 16 - 16 * b) (16 * p + 16 - 16 * p) (omega arith) (omega arith)
 
 module _ (T : Table) (p b : ℕ) where
-  abbrev Rows : Bool
-  Rows = every 128 (λ k. T .I b k) (λ k. T .I p k)
+  abbrev RowsIn : Bool
+  RowsIn = every 128 (λ k. T .I b k) (λ k. T .I p k)
 
-  pub pair-not : Rows ≡ false → false ≡ pairHolds T p b
-  unfolding pairHolds
-  pair-not h = rw h
+  pub open-not : RowsIn ≡ false → false ≡ openHolds T p b
+  unfolding openHolds
+  open-not h = rw h
 
-  pub pair-suspect : Rows ≡ true → T .S b ≡ true → T .S p ≡ pairHolds T p b
-  unfolding pairHolds onlyIf
-  pair-suspect h s = rw (h, s)
+  pub open-suspect : RowsIn ≡ true → T .S b ≡ true → T .S p ≡ openHolds T p b
+  unfolding openHolds onlyIf
+  open-suspect h s = rw (h, s)
 
-  pub pair-other : Rows ≡ true → T .S b ≡ false → true ≡ pairHolds T p b
-  unfolding pairHolds onlyIf
-  pair-other h s = rw (h, s)
+  pub open-other : RowsIn ≡ true → T .S b ≡ false → true ≡ openHolds T p b
+  unfolding openHolds onlyIf
+  open-other h s = rw (h, s)
 
-pub opens-same : (T : Table) (partners : List ℕ) (m p : ℕ) → ((b : ℕ) → testBit m b ≡ opened T partners p b) → opensAt T (testBit m) p ≡ opensAt T (opened T partners p) p
-opens-same T partners m p h = ap (λ (x : ℕ → Bool). opensAt T x p) (fun-ext h)
+-- what the test of open decides
+open-decides : (u : Set) (p b : ℕ) (r : Bool) → r ≡ openHolds (parts u) p b → Decides r (Opening p b u)
+unfolding openHolds placeI placeS
+open-decides u p b r e = record {
+  holds = λ t. let h = sym e ∙ t in (
+    every-use (λ k. u (128 * b + k)) (λ k. u (128 * p + k)) 128 (and-left _ _ h),
+    onlyIf-use (u (12288 + b)) (u (12288 + p)) (and-right (every 128 (λ k. u (128 * b + k)) (λ k. u (128 * p + k))) _ h),
+  );
+  passes = λ f. e ∙ and-make (every-make (λ k. u (128 * b + k)) (λ k. u (128 * p + k)) 128 (f .0)) (onlyIf-make (u (12288 + b)) (u (12288 + p)) (f .1));
+}
+
+-- ---- what the words show
+
+pub decide-no : {P : Type 0} (r : Bool) → (P → r ≡ true) → r ≡ false → Decides false P
+decide-no r f d = record { holds = λ x. absurd (true≢false (sym x)); passes = λ q. sym d ∙ f q }
+
+pub within-decides : (x y : ℕ) → x < 2 ^ 64 → y < 2 ^ 64 → Decides (eqb (bitOr x y) y) (Within x y)
+unfolding Within
+within-decides x y hx hy = record { holds = λ t. or-same x y (eqb-true _ _ t); passes = λ f. eq-eqb _ _ (same-or 64 x y hx hy f) }
+
+module _ (w m : List ℕ) (p b : ℕ) (n : Narrow 64 w) (hp : p < 64) (hb : b < 64) where
+  abbrev here : ℕ
+  here = getD w (2 * p) 0
+
+  abbrev there : ℕ
+  there = getD w (2 * b) 0
+
+  abbrev enter : ℕ
+  enter = getD m b 0
+
+  abbrev leave : ℕ
+  leave = getD m (64 + b) 0
+
+  low : (i k : ℕ) → testBit (getD w i 0) k ≡ true → k < 64
+  low i k t = below-64 (getD w i 0) k (n i) t
+
+  abbrev Held : Type 0
+  Held = Moving m p b (Bits w)
+
+  pub moves-in : Held → Within (bitAnd here enter) there
+  unfolding Within
+  moves-in f k t = let h = low (2 * p) k (and-l here enter k t) in sym (bit-lo w b k h) ∙ f .ins k h (and-r here enter k t) (bit-lo w p k h ∙ and-l here enter k t) .0
+
+  pub moves-out : Held → Within (bitAnd there leave) here
+  unfolding Within
+  moves-out f k t = let h = low (2 * b) k (and-l there leave k t) in sym (bit-lo w p k h) ∙ f .outs k h (and-r there leave k t) (bit-lo w b k h ∙ and-l there leave k t) .0
+
+  pub moves-suspect : testBit (getD w 192 0) b ≡ true → Held → Within (bitOr (bitAnd here enter) (bitAnd there leave)) (getD w 192 0)
+  unfolding Within
+  moves-suspect s f k t = or-cases (testBit (bitAnd here enter) k) (testBit (bitAnd there leave) k) (sym (or-bit (bitAnd here enter) (bitAnd there leave) k) ∙ t)
+      (λ v. let h = low (2 * p) k (and-l here enter k v) in sym (suspect-bit w k h) ∙ f .ins k h (and-r here enter k v) (bit-lo w p k h ∙ and-l here enter k v) .1 (suspect-bit w b hb ∙ s))
+      (λ v. let h = low (2 * b) k (and-l there leave k v) in sym (suspect-bit w k h) ∙ f .outs k h (and-r there leave k v) (bit-lo w b k h ∙ and-l there leave k v) .1 (suspect-bit w b hb ∙ s))
+
+  pub moves-make : Within (bitAnd here enter) there → Within (bitAnd there leave) here →
+      (testBit (getD w 192 0) b ≡ true → Within (bitOr (bitAnd here enter) (bitAnd there leave)) (getD w 192 0)) → Held
+  unfolding Within
+  moves-make i o s = record {
+    ins = λ a h t q. let v = and-in here enter a (sym (bit-lo w p a h) ∙ q) t in
+        (bit-lo w b a h ∙ i a v, λ sb. suspect-bit w a h ∙ s (sym (suspect-bit w b hb) ∙ sb) a (or-some (bitAnd here enter) (bitAnd there leave) a (inl v)));
+    outs = λ a h t q. let v = and-in there leave a (sym (bit-lo w b a h) ∙ q) t in
+        (bit-lo w p a h ∙ o a v, λ sb. suspect-bit w a h ∙ s (sym (suspect-bit w b hb) ∙ sb) a (or-some (bitAnd here enter) (bitAnd there leave) a (inr v)));
+  }
+
+-- ---- a pair, and a row
+
+module _ (m : List ℕ) (p b : ℕ) (u : Set) where
+  pub pair-open : (s : Set) (r : Bool) → u ≡ s → Moving m p b u → testBit (getD m (128 + b) 0) p ≡ true → r ≡ openHolds (parts s) p b → Decides r (Pair m p b u)
+  pair-open s r e f t q = let d = open-decides u p b r (q ∙ ap (λ (x : Set). openHolds (parts x) p b) (sym e)) in
+      record { holds = λ x. record { moves = f; opens = λ _. d .holds x }; passes = λ g. d .passes (g .opens t) }
+
+  pub pair-shut : Moving m p b u → testBit (getD m (128 + b) 0) p ≡ false → Decides true (Pair m p b u)
+  pair-shut f d = record { holds = λ _. record { moves = f; opens = λ t. absurd (true≢false (sym t ∙ d)) }; passes = λ _. refl }
+
+-- the bits of row p that are no longer in rest
+abbrev pub Tested : List ℕ → List ℕ → ℕ → ℕ → Type 0
+Tested m w p rest = (x : ℕ) → x < 64 → testBit (getD w (2 * p) 0) x ≡ true → (testBit rest x ≡ true → ⊥) → Pair m p x (Bits w)
+
+module _ (m w : List ℕ) (p rest : ℕ) (f : Tested m w p rest) where
+  pub tested-next : (b : ℕ) → Lowest rest b 64 → Pair m p b (Bits w) → Tested m w p (bitAnd rest (rest - 1))
+  tested-next b o q x h t d = go (ℕ-discrete x b)
+    where
+      go : Dec (x ≡ b) → Pair m p x (Bits w)
+      go (yes e) = subst (λ (y : ℕ). Pair m p y (Bits w)) (sym e) q
+      go (no n) = f x h t (λ v. d (and-in rest (rest - 1) x v (o .kept x n v)))
+
+  pub tested-all : rest ≡ 0 → Decides true (PairsAt m (Bits w) p)
+  unfolding PairsAt
+  tested-all e = record {
+    holds = λ _ b h t. f b h (sym (bit-lo w p b h) ∙ t) (λ v. true≢false (sym v ∙ ap (λ (y : ℕ). testBit y b) e ∙ zero-bit b));
+    passes = λ _. refl;
+  }
+
+pub tested-not : (m w : List ℕ) (p b : ℕ) (r : Bool) → b < 64 → testBit (getD w (2 * p) 0) b ≡ true → Decides r (Pair m p b (Bits w)) → r ≡ false → Decides false (PairsAt m (Bits w) p)
+unfolding PairsAt
+tested-not m w p b r h t d e = decide-no r (λ f. d .passes (f b h (bit-lo w p b h ∙ t))) e

@@ -4,16 +4,17 @@ ghost use mathlib.Core.Path.{_≡_};
 ghost use mathlib.Core.Bool.{true};
 ghost use Prim.Native.Nat.{ℕ, _<_};
 ghost use lib.ListN.{length};
+ghost use Rattle.closure.specs.Cells.{Bits};
 ghost use Rattle.closure.specs.Rules.{Decides};
 ghost use Rattle.model.specs.Analysis.{free, holds};
 ghost use Rattle.model.specs.Finite.{every};
 ghost use Rattle.model.specs.Laws.WellFormed.{shape};
 ghost use Rattle.model.specs.Records.{records};
 ghost use Rattle.model.specs.Refusals.{pass};
-ghost use Rattle.model.specs.Tables.{bits, isHigh, parts, suspects, testBit};
+ghost use Rattle.model.specs.Tables.{bits, isHigh, parts, suspects};
 ghost use Rattle.model.specs.Validity.{validity};
 ghost use Rattle.partners.specs.Facts.{AllRules};
-ghost use Rattle.holding.specs.Tests.{nestsHold, opened, opensAt, opensHold, pairHolds, stood};
+ghost use Rattle.holding.specs.Tests.{Moving, Pair, PairsAt, Within, nestsHold, openHolds, stood};
 
 // Whether every high label is suspect. (inner)
 fn highs_hold(policy: &[u8], table: &[u8]) -> bool
@@ -61,7 +62,7 @@ fn nesting_holds(it: &[u8], table: &[u8]) -> bool
     while i < n {
         let r = itinerary::record_at(it, i + 1);
         if 1 <= r.kind {
-            if !stands(table, itinerary::container_of(it, i + 1), r) {
+            if !stands(table, itinerary::container_below(it, r.parent), r) {
                 return false;
             }
         }
@@ -70,30 +71,43 @@ fn nesting_holds(it: &[u8], table: &[u8]) -> bool
     true
 }
 
-// The labels that some open capability that may stand in p may act on. (inner)
-fn openable(table: &[u8], partners: &[u64], p: usize) -> u64
-    requires { ⌜ length (now table) ≡ 1544 ⌝ }
-    requires { ⌜ length (now partners) ≡ 192 ⌝ }
-    requires { ⌜ p < 64 ⌝ }
-    ensures { λ r. ⌜ ((b : ℕ) → testBit r b ≡ opened (parts (bits (now (table .entry)))) (now (partners .entry)) p b) ⌝ }
+// Whether all labels of x are labels of y.
+fn within(x: u64, y: u64) -> bool
+    ensures { λ r. ⌜ Decides r (Within x y) ⌝ }
 {
-    let mut m: u64 = 0;
-    let mut t: usize = 0;
-    while t < 64 {
-        if tables::bit(table, 128 * p + (64 + t)) {
-            m |= partners[128 + t];
-        }
-        t += 1;
+    x | y == y
+}
+
+// Whether the rules of in and out hold for b in row p; w is the table in words. (inner)
+fn moves_hold(w: &[u64], movers: &[u64], p: usize, b: usize) -> bool
+    requires { ⌜ length (now w) ≡ 193 ⌝ }
+    requires { ⌜ length (now movers) ≡ 192 ⌝ }
+    requires { ⌜ p < 64 ⌝ }
+    requires { ⌜ b < 64 ⌝ }
+    ensures { λ r. ⌜ Decides r (Moving (now (movers .entry)) p b (Bits (now (w .entry)))) ⌝ }
+{
+    let here = w[2 * p];
+    let there = w[2 * b];
+    let entering = here & movers[b];
+    let leaving = there & movers[64 + b];
+    if !within(entering, there) {
+        return false;
     }
-    m
+    if !within(leaving, here) {
+        return false;
+    }
+    if closure::bit_of(w[192], b) {
+        return within(entering | leaving, w[192]);
+    }
+    true
 }
 
 // Whether b may be opened in p: its row lies inside p's, and if b is suspect so is p. (inner)
-fn pair_holds(table: &[u8], p: usize, b: usize) -> bool
+fn open_holds(table: &[u8], p: usize, b: usize) -> bool
     requires { ⌜ length (now table) ≡ 1544 ⌝ }
     requires { ⌜ p < 64 ⌝ }
     requires { ⌜ b < 64 ⌝ }
-    ensures { λ r. ⌜ r ≡ pairHolds (parts (bits (now (table .entry)))) p b ⌝ }
+    ensures { λ r. ⌜ r ≡ openHolds (parts (bits (now (table .entry)))) p b ⌝ }
 {
     let x = 16 * b;
     let x_end = x + 16;
@@ -108,33 +122,56 @@ fn pair_holds(table: &[u8], p: usize, b: usize) -> bool
     true
 }
 
-// Whether each label of m that may stand in p may be opened there. (inner)
-fn opens_at(table: &[u8], m: u64, p: usize) -> bool
+// Whether the rules hold for b in row p. (inner)
+fn pair_holds(table: &[u8], w: &[u64], movers: &[u64], p: usize, b: usize) -> bool
     requires { ⌜ length (now table) ≡ 1544 ⌝ }
+    requires { ⌜ length (now w) ≡ 193 ⌝ }
+    requires { ⌜ Bits (now w) ≡ bits (now table) ⌝ }
+    requires { ⌜ length (now movers) ≡ 192 ⌝ }
     requires { ⌜ p < 64 ⌝ }
-    ensures { λ r. ⌜ r ≡ opensAt (parts (bits (now (table .entry)))) (testBit m) p ⌝ }
+    requires { ⌜ b < 64 ⌝ }
+    ensures { λ r. ⌜ Decides r (Pair (now (movers .entry)) p b (Bits (now (w .entry)))) ⌝ }
 {
-    let mut b: usize = 0;
-    while b < 64 {
-        if tables::bit(table, 128 * p + b) & closure::bit_of(m, b) {
-            if !pair_holds(table, p, b) {
-                return false;
-            }
-        }
-        b += 1;
+    if !moves_hold(w, movers, p, b) {
+        return false;
+    }
+    if closure::bit_of(movers[128 + b], p) {
+        return open_holds(table, p, b);
     }
     true
 }
 
-// Whether the rules of all open capabilities hold. (inner)
-fn opens_hold(table: &[u8], partners: &[u64]) -> bool
+// Whether the rules hold for all of row p. (inner)
+fn row_holds(table: &[u8], w: &[u64], movers: &[u64], p: usize) -> bool
     requires { ⌜ length (now table) ≡ 1544 ⌝ }
-    requires { ⌜ length (now partners) ≡ 192 ⌝ }
-    ensures { λ r. ⌜ r ≡ opensHold (parts (bits (now (table .entry)))) (now (partners .entry)) ⌝ }
+    requires { ⌜ length (now w) ≡ 193 ⌝ }
+    requires { ⌜ Bits (now w) ≡ bits (now table) ⌝ }
+    requires { ⌜ length (now movers) ≡ 192 ⌝ }
+    requires { ⌜ p < 64 ⌝ }
+    ensures { λ r. ⌜ Decides r (PairsAt (now (movers .entry)) (Bits (now (w .entry))) p) ⌝ }
+{
+    let mut rest = w[2 * p];
+    while rest != 0 {
+        let b = u64::trailing_zeros(rest) as usize;
+        if !pair_holds(table, w, movers, p, b) {
+            return false;
+        }
+        rest = rest & (rest - 1);
+    }
+    true
+}
+
+// Whether the rules hold for all rows. (inner)
+fn rows_hold(table: &[u8], w: &[u64], movers: &[u64]) -> bool
+    requires { ⌜ length (now table) ≡ 1544 ⌝ }
+    requires { ⌜ length (now w) ≡ 193 ⌝ }
+    requires { ⌜ Bits (now w) ≡ bits (now table) ⌝ }
+    requires { ⌜ length (now movers) ≡ 192 ⌝ }
+    ensures { λ r. ⌜ Decides r ((p : ℕ) → p < 64 → PairsAt (now (movers .entry)) (Bits (now (w .entry))) p) ⌝ }
 {
     let mut p: usize = 0;
     while p < 64 {
-        if !opens_at(table, openable(table, partners, p), p) {
+        if !row_holds(table, w, movers, p) {
             return false;
         }
         p += 1;
@@ -152,10 +189,9 @@ fn rules_hold(it: &[u8], table: &[u8]) -> bool
     words::load(&mut w, table);
     let mut partners = [0u64; 192];
     partners::fold(&mut partners, &w, it);
-    if !opens_hold(table, &partners) {
-        return false;
-    }
-    closure::stable(&mut w, &partners, 128)
+    let mut movers = [0u64; 192];
+    closure::add_movers(&mut movers, &w, &partners);
+    rows_hold(table, &w, &movers)
 }
 
 // Whether the table holds. (inner)

@@ -257,8 +257,8 @@ unfolding view count
 view-from v s i = let e : length s / 8 + 1 ≡ suc (length (records s)) = omega (arith, length-records s) in ap (λ k. viewFrom v (records s) k i) e
 
 -- the view at the parent of a record that was read
-pub view-above : {A : Type 0} (v : View A) (s : List ℕ) (i : ℕ) → length s % 8 ≡ 0 → (r : Rec) → r ≡ decode s i → viewFrom v (records s) (length s / 8 + 1) (r .parent) ≡ view v (records s) (parentOf (records s) i)
-view-above v s i m r e = view-from v s (r .parent) ∙ ap (λ x. view v (records s) (x .parent)) (e ∙ sym (at-whole s m i))
+pub view-above : {A : Type 0} (v : View A) (s : List ℕ) (i : ℕ) → length s % 8 ≡ 0 → (r : Rec) → r ≡ decode s i → view v (records s) (r .parent) ≡ view v (records s) (parentOf (records s) i)
+view-above v s i m r e = ap (λ x. view v (records s) (x .parent)) (e ∙ sym (at-whole s m i))
 
 -- ambients by their kind
 pub ambient-is : (r : Rec) → r .kind ≡ 1 → isAmbient r ≡ true

@@ -8,7 +8,7 @@ ghost use mathlib.Core.Path.{_≡_};
 ghost use Prim.Native.Nat.{_*_, _<_, _≤_, _%_};
 ghost use lib.ListN.{length};
 ghost use Rattle.model.specs.Records.{byteOf, count, decode, nested, records, word};
-ghost use Rattle.model.specs.Climbing.{container, nesting, reaches, standing, viewFrom};
+ghost use Rattle.model.specs.Climbing.{container, nesting, reaches, standing, view, viewFrom};
 ghost use Rattle.model.specs.Refusals.{answer, eachOf};
 ghost use Rattle.model.specs.Validity.{climbCheck, goneRight, labelRight, nameRight, parentRight, recordCheck, spareRight};
 ghost use Rattle.model.specs.Calls.{containerAnswer, validateAnswer};
@@ -328,13 +328,28 @@ pub fn ambients(it: &[u8], i: u16, left: usize) -> bool
     ambients(it, up(it, up(it, up(it, r.parent))), left - 4)
 }
 
+// The container of a record with this parent; inner. The parent is looked at here: for most records that spares the call.
+pub fn container_below(it: &[u8], parent: u16) -> u8
+    requires { ⌜ length (now it) % 8 ≡ 0 ⌝ }
+    ensures { λ r. ⌜ r ≡ view nesting (records (now (it .entry))) parent ⌝ }
+{
+    if parent == 0 {
+        return 0;
+    }
+    let above = record_at(it, parent);
+    if above.kind == 1 {
+        return above.label;
+    }
+    nearest(it, above.parent, it.len() / 8)
+}
+
 // The container of record i; inner.
 pub fn container_of(it: &[u8], i: u16) -> u8
     requires { ⌜ length (now it) % 8 ≡ 0 ⌝ }
     ensures { λ r. ⌜ r ≡ container (records (now (it .entry))) i ⌝ }
 {
     let r = record_at(it, i);
-    nearest(it, r.parent, it.len() / 8 + 1)
+    container_below(it, r.parent)
 }
 
 // The container of a record, after refusals 1 to 6; 0 for number 0, over the count or a gone record.

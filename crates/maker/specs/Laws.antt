@@ -1,5 +1,5 @@
 -- Bits set one by one in a table of bytes, a part of it lent on, and the least table.
-use Prim.Native.Nat.{_%_, _*_, _+_, _-_, _/_, _<_, _^_, _≤_, ℕ}
+use Prim.Native.Nat.{_%_, _*_, _+_, _-_, _/_, _<_, _^_, ℕ}
 use borrow.Author.Tests.{eq-eqb, eqb-true, le-leb, le-ltb, lt-leb, lt-ltb}
 use lib.Dec.{leb, ltb}
 use lib.ListN.{List·getD-append, List·getD-eq-default, drop, getD, length, length-drop, length-take, take}
@@ -9,11 +9,10 @@ use mathlib.Core.List.{List, _++_}
 use mathlib.Core.Logic.{⊎-elim}
 use mathlib.Core.Path.{_∙_, _≡_, ap, ap₂, refl, subst, subst₂, sym}
 use native.Mathlib.Decide.{decLt}
-use native.Mathlib.Nat.{eq-or-lt-of-le, le-of-eq, le-of-suc-le-suc, le-trans, min-le-left}
-use native.Mathlib.Numerals.{add-one}
+use native.Mathlib.Nat.{le-of-eq, le-trans, min-le-left}
 use native.Mathlib.Omega.{arith}
-use Rattle.closure.specs.Cells.{Bits, Word, or-has, or-word, orAt}
-use Rattle.closure.specs.Rules.{Closed, InRule, OpenRule, OutRule, Rules}
+use Rattle.closure.specs.Cells.{Bits, Word, last-or, or-has, or-word, orAt}
+use Rattle.closure.specs.Rules.{Closed}
 use Rattle.maker.specs.Facts.{Based, Closes, Filled}
 use Rattle.model.specs.Analysis.{free}
 use Rattle.model.specs.Laws.Bit.{pow-bit, zero-bit}
@@ -24,14 +23,14 @@ use Rattle.model.specs.Laws.Least.{least-table-is}
 use Rattle.model.specs.Laws.Sets.{Narrow}
 use Rattle.model.specs.Laws.WellFormed.{WellFormed, alive-in, named, small}
 use Rattle.model.specs.Least.{leastTable}
-use Rattle.model.specs.Records.{at, count, records}
+use Rattle.model.specs.Records.{count, records}
 use Rattle.model.specs.Refusals.{pass}
 use Rattle.model.specs.Tables.{bitAt, bits, isHigh, parts, placeH, placeS, testBit}
 use Rattle.model.specs.Validity.{validity}
 use Rattle.model.specs.declared.Rec.{Rec}
 use Rattle.partners.specs.Facts.{Facts, Wanted, bearing, nameCell, nestCell, standing}
-use Rattle.partners.specs.Fold.{Folds, slot}
-use Rattle.partners.specs.Laws.{cap-two, capable, closed-rule, names, rules-closed, slot-small}
+use Rattle.partners.specs.Fold.{Folds}
+use Rattle.partners.specs.Laws.{closed-rule, names, rules-closed}
 use Rattle.partners.specs.Standing.{facts-holds, holds-facts, holds-rules}
 use Rattle.tables.specs.Grow.{Grown, Inside, Set, Smallest}
 
@@ -58,9 +57,6 @@ module _ (test : ℕ → Bool) (cell : ℕ → ℕ) where
   unfolding Wanted
   filled-none = record { keeps = λ j t. t; inside = λ u i f. i; closed = λ x l. absurd (omega arith) }
 
-  last : (x n : ℕ) {A : Type 0} → x < n + 1 → (x ≡ n → A) → (x < n → A) → A
-  last x n l f g = ⊎-elim f g (eq-or-lt-of-le (le-of-suc-le-suc (subst (λ (y : ℕ). x < y) (add-one n) l)))
-
   -- t is the table so far, and t′ that with bit j, which is the cell of n
   pub filled-yes : (n : ℕ) {s : Set} (t t′ : List ℕ) (j : ℕ) → test n ≡ true → j ≡ cell n → j / 8 < length t → t′ ≡ orAt t (j / 8) (2 ^ (j % 8)) →
       Filled test cell n s (bits t) → Filled test cell (n + 1) s (bits t′)
@@ -68,7 +64,7 @@ module _ (test : ℕ → Bool) (cell : ℕ → ℕ) where
   filled-yes n {s} t t′ j c q h e g = subst (λ (x : List ℕ). Filled test cell (n + 1) s (bits x)) (sym e) (record {
     keeps = λ j t. a .keeps j (g .keeps j t);
     inside = λ u i f. let k : Inside (bits t) u = g .inside u i (λ x l. f x (omega arith)) in a .inside u k (ap u q ∙ f n (omega arith) c);
-    closed = λ x l d. last x n l (λ p. ap (bits (orAt t (j / 8) (2 ^ (j % 8)))) (ap cell p ∙ sym q) ∙ a .closed) (λ m. a .keeps (cell x) (g .closed x m d));
+    closed = λ x l d. ⊎-elim (λ p. ap (bits (orAt t (j / 8) (2 ^ (j % 8)))) (ap cell p ∙ sym q) ∙ a .closed) (λ m. a .keeps (cell x) (g .closed x m d)) (last-or x n l);
   })
     where
       a : Smallest (λ u. u j ≡ true) (bits t) (bits (orAt t (j / 8) (2 ^ (j % 8))))
@@ -79,7 +75,7 @@ module _ (test : ℕ → Bool) (cell : ℕ → ℕ) where
   filled-no n c g = record {
     keeps = g .keeps;
     inside = λ u i f. g .inside u i (λ x l. f x (omega arith));
-    closed = λ x l d. last x n l (λ e. absurd (true≢false (sym d ∙ ap test e ∙ c))) (λ m. g .closed x m d);
+    closed = λ x l d. ⊎-elim (λ e. absurd (true≢false (sym d ∙ ap test e ∙ c))) (λ m. g .closed x m d) (last-or x n l);
   }
 
 -- a list whose first n numbers, all it has, are 0
@@ -206,28 +202,24 @@ module _ (s : Set) where
   unfolding wide
   wide-H b n lb ln = rw (lt-leb 12288 (8192 + (64 * b + n)) (omega arith), le-ltb (8192 + (64 * b + n)) 8192 (omega arith))
 
-  wide-closed : (m : ℕ) (p : List ℕ) → Closed m p (wide s)
-  unfolding Closed Rules InRule OutRule OpenRule
-  wide-closed m p i l x lx = record {
-    ins = λ e a b la lb at pa pb bn. (wide-I b a lb (omega arith), λ _. wide-S a);
-    outs = λ e a q la lq at ba pb bn. (wide-I q a lq (omega arith), λ _. wide-S a);
-    opens = λ e b lb pt pb bn. (λ k lk _. wide-I x k lx lk, λ _. wide-S x);
+  wide-closed : (p : List ℕ) → Closed p (wide s)
+  wide-closed p = record {
+    ins = λ t a b q lt la lb lq at pa pb bn. (wide-I b a lb (omega arith), λ _. wide-S a);
+    outs = λ t a b q lt la lb lq at ba pb bn. (wide-I q a lq (omega arith), λ _. wide-S a);
+    opens = λ t b q lt lb lq pt pb bn. (λ k lk _. wide-I q k lq lk, λ _. wide-S q);
   }
 
 -- the least set closed under the words of partners is the least closed under the rules: H never grows
-pub closes : (its : List Rec) → WellFormed its → (s s′ : Set) (p : List ℕ) → Folds its (parts s .H) (length its) p → Smallest (Closed 192 p) s s′ → Closes its s s′
+pub closes : (its : List Rec) → WellFormed its → (s s′ : Set) (p : List ℕ) → Folds its (parts s .H) (length its) p → Smallest (Closed p) s s′ → Closes its s s′
 unfolding placeH
 closes its wf s s′ p F L = record {
   keeps = L .keeps;
-  inside = λ u i f. L .inside u i (rules-closed wf (parts s .H) (length its) p F u (λ b n lb ln h. i (8192 + (64 * b + n)) h) 192 (λ j k e l. f j k e));
-  closed = λ j k e. closed-rule wf (parts s .H) (length its) p F s′ back-H 192 (L .closed) j k (alive-in its j (cap-alive its j k e)) e (slot-at j (cap-two _ k e));
+  inside = λ u i f. L .inside u i (rules-closed wf (parts s .H) (length its) p F u (λ b n lb ln h. i (8192 + (64 * b + n)) h) f);
+  closed = λ j k e. closed-rule wf (parts s .H) (length its) p F s′ back-H (L .closed) j k (alive-in its j (cap-alive its j k e)) e;
 }
   where
     back-H : (b n : ℕ) → b < 64 → n < 64 → s′ (8192 + (64 * b + n)) ≡ true → s (8192 + (64 * b + n)) ≡ true
-    back-H b n lb ln h = sym (wide-H s b n lb ln) ∙ L .inside (wide s) (wide-keeps s) (wide-closed s 192 p) (8192 + (64 * b + n)) h
-
-    slot-at : (j : ℕ) → 2 ≤ at its j .kind → slot (at its j) < 192
-    slot-at j two = slot-small (at its j) (capable (at its j) (wf .shaped j) two) two
+    back-H b n lb ln h = sym (wide-H s b n lb ln) ∙ L .inside (wide s) (wide-keeps s) (wide-closed s p) (8192 + (64 * b + n)) h
 
 facts-up : {its : List Rec} {policy : List ℕ} {s s′ : Set} → Inside s s′ → Facts its policy s → Facts its policy s′
 unfolding Wanted
@@ -242,7 +234,7 @@ made its wf policy t t′ l n b c =
 
 -- ---- a table in words: w is t's, and t′ that of w′
 
-pub close-made : (s t t′ w w′ p : List ℕ) → validity s ≡ pass → Bits w ≡ bits t → Folds (records s) (names w) (count s) p → Smallest (Closed 192 p) (Bits w) (Bits w′) → bits t′ ≡ Bits w′ →
+pub close-made : (s t t′ w w′ p : List ℕ) → validity s ≡ pass → Bits w ≡ bits t → Folds (records s) (names w) (count s) p → Smallest (Closed p) (Bits w) (Bits w′) → bits t′ ≡ Bits w′ →
     Closes (records s) (bits t) (bits t′)
 close-made s t t′ w w′ p v e F L e′ =
     subst₂ (λ (x y : Set). Closes (records s) x y) e (sym e′)

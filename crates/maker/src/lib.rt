@@ -75,7 +75,7 @@ fn fill_nesting(table: &mut [u8], it: &[u8])
     while i < n {
         let r = itinerary::record_at(it, i + 1);
         if 1 <= r.kind {
-            let container = itinerary::container_of(it, i + 1);
+            let container = itinerary::container_below(it, r.parent);
             set_bit(table, 128 * (container as usize) + (r.label as usize));
         }
         i += 1;

@@ -4,11 +4,14 @@ use Prim.Native.Nat.{_*_, _+_, _-_, _<_, _≤_, ℕ}
 use lib.ListN.{getD}
 use mathlib.Core.Bool.{Bool, true}
 use mathlib.Core.List.{List}
-use mathlib.Core.Logic.{_⊎_}
 use mathlib.Core.Path.{_≡_}
 use Rattle.model.specs.Records.{at}
 use Rattle.model.specs.Tables.{testBit}
 use Rattle.model.specs.declared.Rec.{Rec}
+
+-- the names borne, by words of bearers: word n has the labels that bear name n
+abbrev pub borne : List ℕ → ℕ → ℕ → Bool
+borne bearers b n = testBit (getD bearers n 0) b
 
 unfoldable pub slot : Rec → ℕ
 slot r = 64 * (r .kind - 2) + (r .label - 64)
@@ -19,12 +22,6 @@ pub record Aims (H : ℕ → ℕ → Bool) (r : Rec) (i b : ℕ) : Type 0 where
   pub here : slot r ≡ i
   pub below : b < 64
   pub names : H b (r .name) ≡ true
-
--- from p to p′ the partners of r were added
-pub record Added (H : ℕ → ℕ → Bool) (r : Rec) (p p′ : List ℕ) : Type 0 where
-  pub keeps : (i b : ℕ) → testBit (getD p i 0) b ≡ true → testBit (getD p′ i 0) b ≡ true
-  pub has : (i b : ℕ) → Aims H r i b → testBit (getD p′ i 0) b ≡ true
-  pub only : (i b : ℕ) → testBit (getD p′ i 0) b ≡ true → (testBit (getD p i 0) b ≡ true) ⊎ Aims H r i b
 
 pub record Source (its : List Rec) (H : ℕ → ℕ → Bool) (i b : ℕ) : Type 0 where
   pub from : ℕ

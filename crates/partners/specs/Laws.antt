@@ -1,24 +1,24 @@
 -- The folded rules hold exactly where the rules of all capability records do.
-use Prim.Native.Nat.{_%_, _*_, _+_, _/_, _<_, _≤_, suc, zero, ℕ}
+use Prim.Native.Nat.{_%_, _*_, _+_, _-_, _/_, _<_, _≤_, suc, zero, ℕ}
 use borrow.Author.Tests.{le-leb, leb-true, ne-eqb}
-use lib.Bits.{bitOr}
 use lib.Dec.{leb}
 use lib.ListN.{getD, length}
-use lib.Seq.{getD-set-other, getD-set-same}
 use mathlib.Core.Bool.{Bool, false, true, true≢false}
 use mathlib.Core.List.{List}
-use mathlib.Core.Logic.{_⊎_, inl, inr, ⊎-elim}
+use mathlib.Core.Logic.{⊎-elim}
 use mathlib.Core.Option.{some}
 use mathlib.Core.Path.{_∙_, _≡_, ap, refl, subst, sym}
 use native.Mathlib.Decide.{ℕ-discrete}
 use native.Mathlib.Omega.{arith}
-use Rattle.closure.specs.Cells.{Bits, at-word, orAt}
-use Rattle.closure.specs.Rules.{Closed, Column, InRule, OpenRule, OutRule, Rules}
+use Rattle.closure.specs.Adds.{Adds, Transposed, adds-as, adds-none, adds-or, transposed-bit}
+use Rattle.closure.specs.Cells.{Bits, at-word, below-64, orAt}
+use Rattle.closure.specs.Rules.{Closed}
 use Rattle.model.specs.Analysis.{free}
-use Rattle.model.specs.Laws.Bit.{or-bit, zero-bit}
+use Rattle.model.specs.Laws.Bit.{zero-bit}
 use Rattle.model.specs.Laws.Bytes.{at-decode, shape-kind, valid-wf}
-use Rattle.model.specs.Laws.Checks.{and-make, or-cases, or-right}
+use Rattle.model.specs.Laws.Checks.{and-make}
 use Rattle.model.specs.Laws.Holding.{Rule}
+use Rattle.model.specs.Laws.Sets.{Narrow}
 use Rattle.model.specs.Laws.Updates.{at-root}
 use Rattle.model.specs.Laws.WellFormed.{WellFormed, and-left, and-right, shape, shape-label, shape-named}
 use Rattle.model.specs.Records.{Capability, at, cap-in, cap-open, cap-out, capability, count, decode, isAmbient, nested}
@@ -26,8 +26,7 @@ use Rattle.model.specs.Refusals.{pass}
 use Rattle.model.specs.Tables.{parts, placeH, placeI, placeS, testBit}
 use Rattle.model.specs.Validity.{kindRight, labelIn, nameBy, nameRight, validity}
 use Rattle.model.specs.declared.Rec.{Rec}
-use Rattle.partners.specs.Fold.{Added, Aims, Folds, Source, slot}
-use Rattle.tables.specs.Bit.{or-left}
+use Rattle.partners.specs.Fold.{Aims, Folds, Source, borne, slot}
 use Rattle.tables.specs.Grow.{Set}
 
 -- ---- a capability of the right form
@@ -61,45 +60,20 @@ slot-small r c k = let a = c .kind in let b = c .low in let d = c .high in omega
 
 -- ---- the partners of one record
 
-module _ (w : List ℕ) where
-  -- (b, n) in H
-  abbrev pub names : ℕ → ℕ → Bool
-  names b n = parts (Bits w) .H b n
+-- (b, n) in H, for the table in words
+abbrev pub names : List ℕ → ℕ → ℕ → Bool
+names w b n = parts (Bits w) .H b n
 
-  module _ (p : List ℕ) (r : Rec) where
-    pub added-none : r .kind < 2 → Added names r p p
-    added-none h = record { keeps = λ i b t. t; has = λ i b a. let k = a .capable in absurd (omega arith); only = λ i b t. inl t }
+-- r adds them to p
+abbrev pub Aimed : (ℕ → ℕ → Bool) → Rec → List ℕ → List ℕ → Type 0
+Aimed H r p p′ = Adds (Aims H r) (Aims H r) p p′
 
-    module _ (c : Capable r) (k : 2 ≤ r .kind) (l : slot r < length p) (m : ℕ) (M : Column w 128 1 (r .name) 64 m) where
-      names-word : (b : ℕ) → names b (r .name) ≡ testBit (getD w (128 + 1 * b) 0) (r .name)
-      unfolding placeH
-      names-word b = let h = c .name in at-word w (128 + 1 * b) (r .name) (8192 + (64 * b + r .name)) h (omega arith)
+pub aim-none : (H : ℕ → ℕ → Bool) (r : Rec) (p : List ℕ) → r .kind < 2 → Aimed H r p p
+aim-none H r p h = adds-none (λ i b a. let k = a .capable in omega arith)
 
-      at-slot : getD (orAt p (slot r) m) (slot r) 0 ≡ bitOr (getD p (slot r) 0) m
-      at-slot = getD-set-same p (slot r) _ 0 l
-
-      same-bit : (i b : ℕ) → i ≡ slot r → testBit (getD (orAt p (slot r) m) i 0) b ≡ testBit (bitOr (getD p i 0) m) b
-      same-bit i b e = ap (λ (x : ℕ). testBit (getD (orAt p (slot r) m) x 0) b) e ∙ ap (λ (x : ℕ). testBit x b) at-slot ∙ ap (λ (x : ℕ). testBit (bitOr (getD p x 0) m) b) (sym e)
-
-      other-bit : (i b : ℕ) → (i ≡ slot r → ⊥) → testBit (getD (orAt p (slot r) m) i 0) b ≡ testBit (getD p i 0) b
-      other-bit i b d = ap (λ (x : ℕ). testBit x b) (getD-set-other p (slot r) i _ 0 d)
-
-      pub added-one : Added names r p (orAt p (slot r) m)
-      added-one = record {
-        keeps = λ i b t. keep i b (ℕ-discrete i (slot r)) t;
-        has = λ i b a. same-bit i b (sym (a .here)) ∙ or-bit (getD p i 0) m b
-            ∙ or-right (testBit (getD p i 0) b) (testBit m b) (M .has b (a .below) (sym (names-word b) ∙ a .names));
-        only = λ i b t. only i b (ℕ-discrete i (slot r)) t;
-      }
-        where
-          keep : (i b : ℕ) → Dec (i ≡ slot r) → testBit (getD p i 0) b ≡ true → testBit (getD (orAt p (slot r) m) i 0) b ≡ true
-          keep i b (yes e) t = same-bit i b e ∙ or-bit (getD p i 0) m b ∙ or-left (testBit (getD p i 0) b) (testBit m b) t
-          keep i b (no d) t = other-bit i b d ∙ t
-
-          only : (i b : ℕ) → Dec (i ≡ slot r) → testBit (getD (orAt p (slot r) m) i 0) b ≡ true → (testBit (getD p i 0) b ≡ true) ⊎ Aims names r i b
-          only i b (yes e) t = or-cases (testBit (getD p i 0) b) (testBit m b) (sym (or-bit (getD p i 0) m b) ∙ sym (same-bit i b e) ∙ t) (λ s. inl s)
-              (λ s. let o = M .only b s in inr (record { capable = k; here = sym e; below = o .0; names = names-word b ∙ o .1 }))
-          only i b (no d) t = inl (sym (other-bit i b d) ∙ t)
+pub aim-one : (bearers : List ℕ) (r : Rec) (p : List ℕ) → Narrow 64 bearers → 2 ≤ r .kind → slot r < length p → Aimed (borne bearers) r p (orAt p (slot r) (getD bearers (r .name) 0))
+aim-one bearers r p h k l = adds-as (adds-or p (slot r) (getD bearers (r .name) 0) l) (λ i b a. (sym (a .here), a .names))
+    (λ i b a. record { capable = k; here = sym (a .0); below = below-64 (getD bearers (r .name) 0) b (h (r .name)) (a .1); names = a .1 })
 
 -- ---- all records
 
@@ -110,7 +84,7 @@ module _ (its : List Rec) (H : ℕ → ℕ → Bool) where
     only = λ i b t. absurd (true≢false (sym t ∙ ap (λ (x : ℕ). testBit x b) (z i) ∙ zero-bit b));
   }
 
-  pub folds-next : (n : ℕ) (p p′ : List ℕ) (r : Rec) → r ≡ at its (n + 1) → Folds its H n p → Added H r p p′ → Folds its H (n + 1) p′
+  pub folds-next : (n : ℕ) (p p′ : List ℕ) (r : Rec) → r ≡ at its (n + 1) → Folds its H n p → Aimed H r p p′ → Folds its H (n + 1) p′
   folds-next n p p′ r e f a = record {
     has = λ j i b l m. has j i b l m (ℕ-discrete j (n + 1));
     only = λ i b t. ⊎-elim (λ s. f .only i b s) (λ m. record { from = n + 1; aims = subst (λ (x : Rec). Aims H x i b) e m }) (a .only i b t);
@@ -119,6 +93,24 @@ module _ (its : List Rec) (H : ℕ → ℕ → Bool) where
       has : (j i b : ℕ) → j ≤ n + 1 → Aims H (at its j) i b → Dec (j ≡ n + 1) → testBit (getD p′ i 0) b ≡ true
       has j i b l m (yes q) = a .has i b (subst (λ (x : Rec). Aims H x i b) (ap (at its) q ∙ sym e) m)
       has j i b l m (no q) = a .keeps i b (f .has j i b (omega arith) m)
+
+-- H of the table w, transposed into the clear words z
+module _ {its : List Rec} (wf : WellFormed its) (w z bearers : List ℕ) (zero : (i : ℕ) → getD z i 0 ≡ 0) (a : Adds (Transposed w 128 1 64) (Transposed w 128 1 64) z bearers) where
+  names-word : (b n : ℕ) → n < 64 → names w b n ≡ testBit (getD w (128 + 1 * b) 0) n
+  unfolding placeH
+  names-word b n h = at-word w (128 + 1 * b) n (8192 + (64 * b + n)) h (omega arith)
+
+  pub folds-names : (n : ℕ) (p : List ℕ) → Folds its (borne bearers) n p → Folds its (names w) n p
+  folds-names n p f = record {
+    has = λ j i b l m.
+        let h = capable (at its j) (wf .shaped j) (m .capable) .name in
+        f .has j i b l (record { capable = m .capable; here = m .here; below = m .below; names = a .has _ b (record { label = h; below = m .below; bit = sym (names-word b _ h) ∙ m .names }) });
+    only = λ i b t.
+        let s = f .only i b t in
+        let m = s .aims in
+        let o = transposed-bit w 128 1 z bearers zero a _ b (m .names) in
+        record { from = s .from; aims = record { capable = m .capable; here = m .here; below = m .below; names = names-word b _ (o .label) ∙ o .bit } };
+  }
 
 -- ---- the rules
 
@@ -169,11 +161,11 @@ abbrev pub RuleOf : List Rec → Set → Capability → ℕ → Type 0
 RuleOf its u k j = Rule free (parts u) k (at its j .label) (at its j .name)
 
 module _ {its : List Rec} (wf : WellFormed its) (H : ℕ → ℕ → Bool) (n : ℕ) (p : List ℕ) (F : Folds its H n p) (u : Set) where
-  -- the rules of the first m words give those of the records that have one of them
-  pub closed-rule : ((b x : ℕ) → b < 64 → x < 64 → parts u .H b x ≡ true → H b x ≡ true) → (m : ℕ) → Closed m p u →
-      (j : ℕ) (k : Capability) → j ≤ n → capability (at its j .kind) ≡ some k → slot (at its j) < m → RuleOf its u k j
-  unfolding Closed Rules InRule OutRule OpenRule kindOf placeI placeS
-  closed-rule sub m C j k l e s = go k e
+  -- the rules of the words give those of the records
+  pub closed-rule : ((b x : ℕ) → b < 64 → x < 64 → parts u .H b x ≡ true → H b x ≡ true) → Closed p u →
+      (j : ℕ) (k : Capability) → j ≤ n → capability (at its j .kind) ≡ some k → RuleOf its u k j
+  unfolding slot kindOf placeI placeS
+  closed-rule sub C j k l e = go k e
     where
       two : 2 ≤ at its j .kind
       two = cap-two _ k e
@@ -181,42 +173,47 @@ module _ {its : List Rec} (wf : WellFormed its) (H : ℕ → ℕ → Bool) (n : 
       able : Capable (at its j)
       able = capable (at its j) (wf .shaped j) two
 
-      bears : (b : ℕ) → b < 64 → parts u .H b (at its j .name) ≡ true → testBit (getD p (slot (at its j)) 0) b ≡ true
-      bears b lb h = F .has j (slot (at its j)) b l (record { capable = two; here = refl; below = lb; names = sub b (at its j .name) lb (able .name) h })
+      t : ℕ
+      t = at its j .label - 64
 
-      rules : Rules (at its j .kind) (at its j .label) (getD p (slot (at its j)) 0) u
-      rules = subst (λ (t : ℕ). Rules (at its j .kind) t (getD p (slot (at its j)) 0) u) (slot-label (at its j) able two (slot (at its j)) refl)
-          (subst (λ (x : ℕ). Rules x (64 + slot (at its j) % 64) (getD p (slot (at its j)) 0) u) (slot-kind (at its j) able two (slot (at its j)) refl) (C (slot (at its j)) s))
+      below : t < 64
+      below = let h = able .high in omega arith
+
+      stands : (a : ℕ) → u (128 * a + at its j .label) ≡ true → u (128 * a + (64 + t)) ≡ true
+      stands a q = let m = able .low in let r : 64 + t ≡ at its j .label = omega arith in ap (λ (x : ℕ). u (128 * a + x)) r ∙ q
+
+      bears : (i b : ℕ) → slot (at its j) ≡ i → b < 64 → parts u .H b (at its j .name) ≡ true → testBit (getD p i 0) b ≡ true
+      bears i b q lb h = F .has j i b l (record { capable = two; here = q; below = lb; names = sub b (at its j .name) lb (able .name) h })
 
       go : (k : Capability) → capability (at its j .kind) ≡ some k → RuleOf its u k j
-      go cap-in q = λ a b x la lb lx may ia ixa ixb hb. rules x lx .ins (cap-kind _ cap-in q) a b la lb ia ixa ixb (bears b lb hb)
-      go cap-out q = λ a b x la lb lx may ia iba ixb hb. rules b lb .outs (cap-kind _ cap-out q) a x la lx ia iba ixb (bears b lb hb)
-      go cap-open q = λ b x lb lx may ix ixb hb. rules x lx .opens (cap-kind _ cap-open q) b lb ix ixb (bears b lb hb)
+      go cap-in q = λ a b x la lb lx may ia ixa ixb hb. let k = cap-kind _ cap-in q in C .ins t a b x below la lb lx (stands a ia) ixa ixb (bears t b (omega arith) lb hb)
+      go cap-out q = λ a b x la lb lx may ia iba ixb hb. let k = cap-kind _ cap-out q in C .outs t a b x below la lb lx (stands a ia) iba ixb (bears (64 + t) b (omega arith) lb hb)
+      go cap-open q = λ b x lb lx may ix ixb hb. let k = cap-kind _ cap-open q in C .opens t b x below lb lx (stands x ix) ixb (bears (128 + t) b (omega arith) lb hb)
 
-  -- the rules of all records whose words are among the first m give those of the words
-  pub rules-closed : ((b x : ℕ) → b < 64 → x < 64 → H b x ≡ true → parts u .H b x ≡ true) → (m : ℕ) →
-      ((j : ℕ) (k : Capability) → capability (at its j .kind) ≡ some k → slot (at its j) < m → RuleOf its u k j) → Closed m p u
-  unfolding Closed Rules InRule OutRule OpenRule kindOf placeI placeS
-  rules-closed sub m f i l x lx = record {
-    ins = λ e a b la lb ia ixa ixb bn.
-        let s = F .only i b bn in
-        rule s cap-in e a b x la lb lx refl (ap (λ (t : ℕ). u (128 * a + t)) (sym (label s)) ∙ ia) ixa ixb (bears s);
-    outs = λ e a q la lq ia iba ixb bn.
-        let s = F .only i x bn in
-        rule s cap-out e a x q la lx lq refl (ap (λ (t : ℕ). u (128 * a + t)) (sym (label s)) ∙ ia) iba ixb (bears s);
-    opens = λ e b lb ix ixb bn.
-        let s = F .only i b bn in
-        rule s cap-open e b x lb lx refl (ap (λ (t : ℕ). u (128 * x + t)) (sym (label s)) ∙ ix) ixb (bears s);
+  -- the rules of all records give those of the words
+  pub rules-closed : ((b x : ℕ) → b < 64 → x < 64 → H b x ≡ true → parts u .H b x ≡ true) →
+      ((j : ℕ) (k : Capability) → capability (at its j .kind) ≡ some k → RuleOf its u k j) → Closed p u
+  unfolding kindOf placeI placeS
+  rules-closed sub f = record {
+    ins = λ t a b x lt la lb lx ia ixa ixb bn.
+        let s = F .only t b bn in
+        rule s cap-in (omega arith) a b x la lb lx refl (stands s a t (omega arith) ia) ixa ixb (bears s);
+    outs = λ t a b x lt la lb lx ia iba ixb bn.
+        let s = F .only (64 + t) b bn in
+        rule s cap-out (omega arith) a b x la lb lx refl (stands s a t (omega arith) ia) iba ixb (bears s);
+    opens = λ t b x lt lb lx ix ixb bn.
+        let s = F .only (128 + t) b bn in
+        rule s cap-open (omega arith) b x lb lx refl (stands s x t (omega arith) ix) ixb (bears s);
   }
     where
-      able : {b : ℕ} (s : Source its H i b) → Capable (at its (s .from))
+      able : {i b : ℕ} (s : Source its H i b) → Capable (at its (s .from))
       able s = capable (at its (s .from)) (wf .shaped (s .from)) (s .aims .capable)
 
-      label : {b : ℕ} (s : Source its H i b) → 64 + i % 64 ≡ at its (s .from) .label
-      label s = slot-label (at its (s .from)) (able s) (s .aims .capable) i (s .aims .here)
+      stands : {i b : ℕ} (s : Source its H i b) (a t : ℕ) → t ≡ i % 64 → u (128 * a + (64 + t)) ≡ true → u (128 * a + at its (s .from) .label) ≡ true
+      stands {i} s a t e q = ap (λ (x : ℕ). u (128 * a + x)) (sym (slot-label (at its (s .from)) (able s) (s .aims .capable) i (s .aims .here)) ∙ ap (λ (x : ℕ). 64 + x) (sym e)) ∙ q
 
-      bears : {b : ℕ} (s : Source its H i b) → parts u .H b (at its (s .from) .name) ≡ true
-      bears {b} s = sub b (at its (s .from) .name) (s .aims .below) (able s .name) (s .aims .names)
+      bears : {i b : ℕ} (s : Source its H i b) → parts u .H b (at its (s .from) .name) ≡ true
+      bears {i} {b} s = sub b (at its (s .from) .name) (s .aims .below) (able s .name) (s .aims .names)
 
-      rule : {b : ℕ} (s : Source its H i b) (k : Capability) → 2 + i / 64 ≡ kindOf k → RuleOf its u k (s .from)
-      rule s k e = f (s .from) k (kind-cap _ k (sym (slot-kind (at its (s .from)) (able s) (s .aims .capable) i (s .aims .here)) ∙ e)) (subst (λ (y : ℕ). y < m) (sym (s .aims .here)) l)
+      rule : {i b : ℕ} (s : Source its H i b) (k : Capability) → 2 + i / 64 ≡ kindOf k → RuleOf its u k (s .from)
+      rule {i} s k e = f (s .from) k (kind-cap _ k (sym (slot-kind (at its (s .from)) (able s) (s .aims .capable) i (s .aims .here)) ∙ e))

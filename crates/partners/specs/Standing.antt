@@ -8,7 +8,7 @@ use mathlib.Core.List.{List}
 use mathlib.Core.Path.{_∙_, _≡_, ap, ap₂, subst, sym}
 use native.Mathlib.Omega.{arith}
 use Rattle.model.specs.Analysis.{free}
-use Rattle.model.specs.Climbing.{container}
+use Rattle.model.specs.Climbing.{container, nesting, view}
 use Rattle.model.specs.Laws.Bytes.{at-decode, shape-kind, valid-wf}
 use Rattle.model.specs.Laws.Checks.{and-make}
 use Rattle.model.specs.Laws.Containers.{container-small}
@@ -82,6 +82,10 @@ module _ (s : List ℕ) (v : validity s ≡ pass) (i : ℕ) (l : i + 1 ≤ count
   unfolding bearing isAmbient
   bears-not k = ap (λ (x : Rec). eqb (x .kind) 1) (sym read-at) ∙ ne-eqb (r .kind) 1 k
 
+  -- the container is what the parent shows
+  pub contained : (c : ℕ) → c ≡ view nesting (records s) (r .parent) → c ≡ container (records s) (i + 1)
+  contained c p = p ∙ ap (λ (x : Rec). view nesting (records s) (x .parent)) read-at
+
   -- c is the record's container
   pub record Stands (c : ℕ) : Type 0 where
     pub label : r .label < 128
@@ -89,13 +93,13 @@ module _ (s : List ℕ) (v : validity s ≡ pass) (i : ℕ) (l : i + 1 ≤ count
     pub test : standing (records s) i ≡ true
     pub cell : 128 * c + r .label ≡ nestCell (records s) i
 
-  pub stands : (c : ℕ) → c ≡ container (records s) (i + 1) → 1 ≤ r .kind → Stands c
+  pub stands : (c : ℕ) → c ≡ view nesting (records s) (r .parent) → 1 ≤ r .kind → Stands c
   unfolding standing nestCell nested placeI kindRight
   stands c p k = record {
     label = rw read-at (labels wf (i + 1));
-    above = rw p (container-small wf (i + 1));
+    above = rw (contained c p) (container-small wf (i + 1));
     test = ap nested (sym read-at) ∙ and-make (le-leb 1 (r .kind) k) (rw read-at (shape-kind _ (wf .shaped (i + 1))));
-    cell = ap₂ (λ (x : ℕ) (y : Rec). 128 * x + y .label) p read-at;
+    cell = ap₂ (λ (x : ℕ) (y : Rec). 128 * x + y .label) (contained c p) read-at;
   }
 
   pub stands-not : r .kind < 1 → standing (records s) i ≡ false

@@ -3,10 +3,10 @@ use Prim.Native.Nat.{_*_, _+_, _-_, _<_, suc, zero, ℕ}
 use borrow.Author.Tests.{eqb-false, ne-eqb, not-true}
 use lib.ListN.{getD, length, length-set, replicate, set}
 use lib.Seq.{getD-set-other, getD-set-same}
-use mathlib.Core.Bool.{Bool, _&&_, false, not, true, true≢false}
+use mathlib.Core.Bool.{Bool, _&&_, _||_, false, not, true, true≢false}
 use mathlib.Core.List.{List, [], _∷_}
 use mathlib.Core.Option.{Option, none}
-use mathlib.Core.Path.{_∙_, _≡_, ap, ap₂, refl, subst, sym}
+use mathlib.Core.Path.{_∙_, _≡_, ap, ap₂, fun-ext, refl, subst, sym}
 use native.Mathlib.Decide.{ℕ-discrete}
 use native.Mathlib.Nat.{le-of-suc-le-suc, not-suc-le-zero}
 use native.Mathlib.Omega.{arith}
@@ -46,6 +46,14 @@ set-true q k h = record {
     ins u s c j (yes e) t = ap u e ∙ c
     ins u s c j (no d) t = s j (sym (getD-set-other q k j true false d) ∙ t)
 
+set-same : (q : List Bool) (k : ℕ) → k < length q → marked (set q k (getD q k false)) ≡ marked q
+unfolding marked
+set-same q k h = fun-ext (λ j. go j (ℕ-discrete j k))
+  where
+    go : (j : ℕ) → Dec (j ≡ k) → getD (set q k (getD q k false)) j false ≡ getD q j false
+    go j (yes e) = ap (λ (x : ℕ). getD (set q k (getD q k false)) x false) e ∙ getD-set-same q k _ false h ∙ ap (λ (x : ℕ). getD q x false) (sym e)
+    go j (no d) = getD-set-other q k j _ false d
+
 -- ---- a row
 
 abbrev pub RowAt : Set → ℕ → ℕ → Set → Type 0
@@ -57,7 +65,7 @@ module _ (t : Set) (x : ℕ) where
   row-none s = record { keeps = λ j m. m; inside = λ u i c. i; closed = λ k l. absurd (not-suc-le-zero l) }
 
   module _ (k : ℕ) {s : Set} where
-    pub row-yes : (q : List Bool) → k < length q → t (128 * x + k) ≡ true → Smallest (Below (RowAt t x) k) s (marked q) → Smallest (Below (RowAt t x) (k + 1)) s (marked (set q k true))
+    row-yes : (q : List Bool) → k < length q → t (128 * x + k) ≡ true → Smallest (Below (RowAt t x) k) s (marked q) → Smallest (Below (RowAt t x) (k + 1)) s (marked (set q k true))
     unfolding Below marked
     row-yes q l e g =
         let h = set-true q k l in
@@ -67,13 +75,18 @@ module _ (t : Set) (x : ℕ) where
           closed = below-step (RowAt t x) k _ (λ y m f. h .keeps y (g .closed y m f)) (λ _. getD-set-same q k true false l);
         }
 
-    pub row-no : {s₁ : Set} → t (128 * x + k) ≡ false → Smallest (Below (RowAt t x) k) s s₁ → Smallest (Below (RowAt t x) (k + 1)) s s₁
+    row-no : {s₁ : Set} → t (128 * x + k) ≡ false → Smallest (Below (RowAt t x) k) s s₁ → Smallest (Below (RowAt t x) (k + 1)) s s₁
     unfolding Below
     row-no e g = record {
       keeps = g .keeps;
       inside = λ u i c. g .inside u i (λ y m. c y (omega arith));
       closed = below-step (RowAt t x) k _ (g .closed) (λ f. absurd (true≢false (sym f ∙ e)));
     }
+
+    -- `q[k] = b | q[k]`
+    pub row-next : (b : Bool) (q : List Bool) → k < length q → b ≡ t (128 * x + k) → Smallest (Below (RowAt t x) k) s (marked q) → Smallest (Below (RowAt t x) (k + 1)) s (marked (set q k (b || getD q k false)))
+    row-next true q l e g = row-yes q l (sym e) g
+    row-next false q l e g = subst (λ (u : Set). Smallest (Below (RowAt t x) (k + 1)) s u) (sym (set-same q k l)) (row-no (sym e) g)
 
     pub row-end : {s₁ : Set} → k ≡ 64 → Smallest (Below (RowAt t x) k) s s₁ → Smallest (Row t x) s s₁
     unfolding Row Below

@@ -34,9 +34,7 @@ fn step(r: [bool; 64], table: &[u8], x: usize) -> [bool; 64]
     let mut q = r;
     let mut k: usize = 0;
     while k < 64 {
-        if tables::bit(table, 128 * x + k) {
-            q[k] = true;
-        }
+        q[k] = tables::bit(table, 128 * x + k) | q[k];
         k += 1;
     }
     q

@@ -78,7 +78,7 @@ pub record Smallest (F : Set → Type 0) (s s′ : Set) : Type 0 where
   pub inside : (u : Set) → Inside s u → F u → Inside s′ u
   pub closed : F s′
 
-pub any : Set → Type 0
+unfoldable pub any : Set → Type 0
 any s = Unit {0}
 
 pub start : {F : Set → Type 0} (s : Set) → Grown F any s s

@@ -1,18 +1,20 @@
 -- What a loop that stops at the first failure finds.
 use Prim.Native.Nat.{_%_, _*_, _+_, _/_, _<_, _^_, _≤_, ℕ}
+use borrow.Author.Count.{below-more}
 use borrow.Author.Tests.{eq-eqb, le-leb, lt-leb, ne-eqb}
-use lib.Bits.{bitOr}
+use lib.Bits.{and-le-l, and-le-r, bitOr, bitXor, or-add-and, xor-add-and, xor-self}
 use lib.Dec.{eqb, leb}
 use lib.ListN.{getD, length}
 use mathlib.Core.Bool.{Bool, _&&_, false, not, true, true≢false}
 use mathlib.Core.List.{List}
 use mathlib.Core.Path.{_∙_, _≡_, ap, ap₂, fun-ext, refl, sym}
-use native.Mathlib.Decide.{decLt}
+use native.Mathlib.Decide.{decLt, ℕ-discrete}
 use native.Mathlib.Omega.{arith}
 use Rattle.model.specs.Finite.{every}
 use Rattle.model.specs.Laws.Bit.{high-bit, or-same, same-or}
 use Rattle.model.specs.Laws.Checks.{and-make}
 use Rattle.model.specs.Laws.Finite.{every-make, every-use}
+use Rattle.model.specs.Laws.Sets.{Narrow}
 use Rattle.model.specs.Tables.{bitAt, bits, placeH, placeI, policyRight, tableRight, tableSized, testBit}
 use Rattle.tables.specs.Bit.{is-false}
 
@@ -26,11 +28,11 @@ module _ (n : ℕ) (t f : ℕ → Bool) where
 -- ---- rows
 
 -- every byte of x is a part of y's
-pub row-yes : (x y : List ℕ) → ((i : ℕ) → i < 16 → bitOr (getD x i 0) (getD y i 0) ≡ getD y i 0) → true ≡ every 128 (λ k. bits x k) (λ k. bits y k)
+row-yes : (x y : List ℕ) → ((i : ℕ) → i < 16 → bitOr (getD x i 0) (getD y i 0) ≡ getD y i 0) → true ≡ every 128 (λ k. bits x k) (λ k. bits y k)
 unfolding bitAt
 row-yes x y h = all-pass 128 _ _ (λ k l t. or-same (getD x (k / 8) 0) (getD y (k / 8) 0) (h (k / 8) (omega arith)) (k % 8) t)
 
-pub row-no : (x y : List ℕ) (i : ℕ) → i < 16 → getD x i 0 < 2 ^ 8 → getD y i 0 < 2 ^ 8 → (bitOr (getD x i 0) (getD y i 0) ≡ getD y i 0 → ⊥) → false ≡ every 128 (λ k. bits x k) (λ k. bits y k)
+row-no : (x y : List ℕ) (i : ℕ) → i < 16 → getD x i 0 < 2 ^ 8 → getD y i 0 < 2 ^ 8 → (bitOr (getD x i 0) (getD y i 0) ≡ getD y i 0 → ⊥) → false ≡ every 128 (λ k. bits x k) (λ k. bits y k)
 unfolding bitAt
 row-no x y i l hx hy n = sym (is-false _ (λ t. n (same-or 8 (getD x i 0) (getD y i 0) hx hy (λ k s. go t k (decLt k 8) s))))
   where
@@ -41,6 +43,48 @@ row-no x y i l hx hy n = sym (is-false _ (λ t. n (same-or 8 (getD x i 0) (getD 
         let r : (8 * i + k) % 8 ≡ k = omega arith in
         sym (ap₂ (λ (a b : ℕ). testBit (getD y a 0) b) q r)
         ∙ every-use (λ k. bits x k) (λ k. bits y k) 128 t (8 * i + k) (omega arith) (ap₂ (λ (a b : ℕ). testBit (getD x a 0) b) q r ∙ s)
+
+-- e has the bits of the first n bytes of x that y lacks
+pub record Extra (x y : List ℕ) (n e : ℕ) : Type 0 where
+  pub none : e ≡ 0 → (k : ℕ) → k < n → bitOr (getD x k 0) (getD y k 0) ≡ getD y k 0
+  pub all : ((k : ℕ) → k < n → bitOr (getD x k 0) (getD y k 0) ≡ getD y k 0) → e ≡ 0
+
+module _ (x y : List ℕ) where
+  pub extra-none : Extra x y 0 0
+  extra-none = record { none = λ _ k l. absurd (omega arith); all = λ _. refl }
+
+  pub extra-next : (n e : ℕ) → Extra x y n e → Extra x y (n + 1) (bitOr e (bitXor (bitOr (getD x n 0) (getD y n 0)) (getD y n 0)))
+  extra-next n e f = record {
+    none = λ z k l. below-more (λ (k : ℕ). bitOr (getD x k 0) (getD y k 0) ≡ getD y k 0) n (f .none (both z .0)) (equal (both z .1)) k l;
+    all = λ h. ap₂ bitOr (f .all (λ k l. h k (omega arith))) (ap (λ (v : ℕ). bitXor v (getD y n 0)) (h n (omega arith)) ∙ xor-self (getD y n 0));
+  }
+    where
+      d : ℕ
+      d = bitXor (bitOr (getD x n 0) (getD y n 0)) (getD y n 0)
+
+      both : bitOr e d ≡ 0 → (e ≡ 0) × (d ≡ 0)
+      both z = let s = or-add-and e d in let l = and-le-l e d in let r = and-le-r e d in (omega arith, omega arith)
+
+      equal : d ≡ 0 → bitOr (getD x n 0) (getD y n 0) ≡ getD y n 0
+      equal z =
+          let s = xor-add-and (bitOr (getD x n 0) (getD y n 0)) (getD y n 0) in
+          let l = and-le-l (bitOr (getD x n 0) (getD y n 0)) (getD y n 0) in
+          let r = and-le-r (bitOr (getD x n 0) (getD y n 0)) (getD y n 0) in
+          omega arith
+
+  pub extra-end : (n e : ℕ) → n ≡ 16 → Narrow 8 x → Narrow 8 y → Extra x y n e → eqb e 0 ≡ every 128 (λ k. bits x k) (λ k. bits y k)
+  extra-end n e q hx hy f = go (ℕ-discrete e 0)
+    where
+      part : every 128 (λ k. bits x k) (λ k. bits y k) ≡ true → (k : ℕ) → k < n → bitOr (getD x k 0) (getD y k 0) ≡ getD y k 0
+      part t k l = by (ℕ-discrete (bitOr (getD x k 0) (getD y k 0)) (getD y k 0))
+        where
+          by : Dec (bitOr (getD x k 0) (getD y k 0) ≡ getD y k 0) → bitOr (getD x k 0) (getD y k 0) ≡ getD y k 0
+          by (yes p) = p
+          by (no d) = absurd (true≢false (sym t ∙ sym (row-no x y k (omega arith) (hx k) (hy k) d)))
+
+      go : Dec (e ≡ 0) → eqb e 0 ≡ every 128 (λ k. bits x k) (λ k. bits y k)
+      go (yes z) = eq-eqb e 0 z ∙ row-yes x y (λ i l. f .none z i (omega arith))
+      go (no d) = ne-eqb e 0 d ∙ sym (is-false _ (λ t. d (f .all (part t))))
 
 -- ---- a policy
 

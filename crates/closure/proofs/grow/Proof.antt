@@ -1,59 +1,86 @@
 -- `closure::grow` meets its contract.
-use Prim.Native.Nat.{_-_, _≤_}
+use Prim.Native.Nat.{_-_}
+use Rattle.closure.specs.Adds.{clear-sound}
+use Rattle.closure.specs.Cells.{Bits}
+use Rattle.closure.specs.Rounds.{round-end, round-on, round-sound}
+use Rattle.closure.specs.Rules.{Closed, Sound}
+use Rattle.closure.specs.Total.{held, held-le, held-less}
+use Rattle.model.specs.Laws.Sets.{Narrow}
+use Rattle.tables.specs.Grow.{Grown, any, start}
 use lib.ListN.{length}
 use mathlib.Core.Path.{_∙_, _≡_, refl}
 use native.Mathlib.Omega.{arith}
-use Rattle.closure.specs.Cells.{Bits}
-use Rattle.closure.specs.Laws.{rules-empty, turn-end, turn-more}
-use Rattle.closure.specs.Rules.{Rule, Rules}
-use Rattle.tables.specs.Grow.{Below, Grown, loop-none}
 use Rattle.closure.proofs.grow.Statement.{statement}
 use Rattle.closure.proofs.grow.Tie as tie
 
 abbrev Inv-loop : tie.InvT-loop
-Inv-loop w₀ kind t partners holders x₀ w x = (length w ≡ length w₀) × (x ≤ 64) × Grown (Rules kind t partners) (Below (Rule kind t partners) x) (Bits w₀) (Bits w)
+Inv-loop w₀ movers₀ partners n₀ w movers n =
+    (length w ≡ length w₀) × (length movers ≡ length movers₀) × (n ≡ held w 64) × Narrow 64 w × Sound partners (Bits w) movers
+    × Grown (Closed partners) any (Bits w₀) (Bits w)
 
 abbrev μ-loop : tie.MeasureT-loop
-μ-loop w₀ kind t partners holders x₀ w x = 64 - x
+μ-loop w₀ movers₀ partners n₀ w movers n = 4096 - n
 
-returns : tie.Need-returns Inv-loop μ-loop
-returns c = let a = c .before .before .args in rules-empty (a .kind) (a .t) (a .partners) (c .if1 .taken)
-
-sub-column : tie.Need-sub-column Inv-loop μ-loop
-sub-column c = omega arith
-
-column-requires : tie.Need-column-requires Inv-loop μ-loop
-column-requires c κs = let e = c .before .before .before .pre .0 in (omega arith, omega arith)
+capabilities-requires : tie.Need-capabilities-requires Inv-loop μ-loop
+capabilities-requires c κs = c .before .before .before .before .pre .0
 
 loop-holds : tie.Need-loop-holds Inv-loop μ-loop
-loop-holds c = let a = c .before .before .before .before .args in (refl, omega arith, loop-none (Rule (a .kind) (a .t) (a .partners)))
+loop-holds c =
+    let s = c .before .before .before .before .before in
+    let a = s .args in
+    (refl, refl, c .capabilities .ensures, (λ i. c .before .before .before .before .slice-known .given i .fits), clear-sound (a .partners .now) (Bits (a .w .now)) (a .movers .now) (s .pre .1 .1 .0), start (Bits (a .w .now)))
 
-turn-requires : tie.Need-turn-requires Inv-loop μ-loop
-turn-requires c κs = (c .before .before .loop .inv .0 ∙ c .before .before .before .before .before .before .before .pre .0, omega arith)
+add-movers-requires : tie.Need-add-movers-requires Inv-loop μ-loop
+add-movers-requires c κs = let p = c .before .before .before .before .before .before .before .before .pre in let l = c .before .before .loop in (l .inv .1 ∙ p .1 .0, (l .inv .0 ∙ p .0, p .1 .1 .1))
 
-add-x : tie.Need-add-x Inv-loop μ-loop
-add-x c = omega arith
+settle-requires : tie.Need-settle-requires Inv-loop μ-loop
+settle-requires c κs = let p = c .before .before .before .before .before .before .before .before .before .before .before .before .before .pre in let l = c .before .before .before .before .before .before .before .loop in (l .inv .0 ∙ p .0, c .before .before .before .before .add-movers .kept .0 ∙ l .inv .1 ∙ p .1 .0)
+
+capabilities-requires-2 : tie.Need-capabilities-requires-2 Inv-loop μ-loop
+capabilities-requires-2 c κs = c .before .before .before .settle .kept .0 ∙ c .before .before .before .before .before .before .before .before .before .before .before .loop .inv .0 ∙ c .before .before .before .before .before .before .before .before .before .before .before .before .before .before .before .before .before .pre .0
+
+same-length : tie.Need-same-length Inv-loop μ-loop
+same-length c = c .before .before .before .before .before .settle .kept .0 ∙ c .before .before .before .before .before .before .before .before .before .before .before .before .before .loop .inv .0
+
+same-length-2 : tie.Need-same-length-2 Inv-loop μ-loop
+same-length-2 c = c .before .before .before .before .before .before .before .before .before .before .add-movers .kept .0 ∙ c .before .before .before .before .before .before .before .before .before .before .before .before .before .loop .inv .1
+
+returns : tie.Need-returns Inv-loop μ-loop
+returns c =
+    let a = c .before .before .before .before .before .before .before .before .before .before .before .before .before .before .before .before .before .before .before .args in
+    let l = c .before .before .before .before .before .before .before .before .before .before .before .before .before .loop in
+    let f = c .before .before .before .before .before .before .before .before .before .before .add-movers in
+    let q = c .before .before .before .before .before .settle in
+    let n = l .inv .2 in
+    let m = c .before .capabilities2 .ensures in
+    let e = c .if1 .taken in
+    round-end (a .partners .now) (l .movers) (f .last .0) (l .w) (q .last .0) (l .inv .5) (l .inv .4) (f .ensures) (q .ensures) (l .inv .3) (λ i. c .before .before .before .slice-known4 .given i .fits) (omega arith)
 
 loop-less : tie.Need-loop-less Inv-loop μ-loop
-loop-less c = omega arith
+loop-less c =
+    let l = c .before .before .before .before .before .before .before .before .before .before .before .before .before .loop in
+    let q = c .before .before .before .before .before .settle in
+    let h : Narrow 64 (q .last .0) = λ i. c .before .before .before .slice-known4 .given i .fits in
+    let n = l .inv .2 in
+    let m = c .before .capabilities2 .ensures in
+    let g = held-less (l .w) (q .last .0) (l .inv .3) h (q .ensures .keeps) 64 .le in
+    let b = held-le (q .last .0) 64 h in
+    let d = c .if1 .left in
+    omega arith
 
 loop-again : tie.Need-loop-again Inv-loop μ-loop
 loop-again c =
-    let s = c .before .before .before .before .before .before .before .before .before .before in
-    let a = s .args in
-    let l = c .before .before .before .before .before .loop in
-    let k = c .before .before .before .before .before .before .column in
-    let q = c .before .before .turn in (
+    let a = c .before .before .before .before .before .before .before .before .before .before .before .before .before .before .before .before .before .before .before .args in
+    let l = c .before .before .before .before .before .before .before .before .before .before .before .before .before .loop in
+    let f = c .before .before .before .before .before .before .before .before .before .before .add-movers in
+    let q = c .before .before .before .before .before .settle in (
       q .kept .0 ∙ l .inv .0,
-      omega arith,
-      turn-more (a .w .now) (l .w) (a .kind) (a .t) (a .partners) (k .result) (l .x) (s .pre .1 .0) (s .pre .1 .1) (omega arith) (k .ensures) (l .inv .2) (q .ensures),
+      f .kept .0 ∙ l .inv .1,
+      c .before .capabilities2 .ensures,
+      (λ i. c .before .before .before .slice-known4 .given i .fits),
+      round-sound (a .partners .now) (l .movers) (f .last .0) (l .w) (q .last .0) (l .inv .5) (l .inv .4) (f .ensures) (q .ensures),
+      round-on (a .partners .now) (l .movers) (f .last .0) (l .w) (q .last .0) (l .inv .5) (l .inv .4) (f .ensures) (q .ensures),
     )
-
-same-length : tie.Need-same-length Inv-loop μ-loop
-same-length c = c .before .loop .inv .0
-
-returns-2 : tie.Need-returns-2 Inv-loop μ-loop
-returns-2 c = let a = c .before .before .before .before .before .before .args in turn-end (a .kind) (a .t) (a .partners) (c .before .loop .x) (omega arith) (c .before .loop .inv .2)
 
 pub grow-spec : {M : Type 1} → statement M
 grow-spec =
@@ -61,13 +88,13 @@ grow-spec =
     (tie.spec
     Inv-loop
     μ-loop
-    returns
-    sub-column
-    column-requires
+    capabilities-requires
     loop-holds
-    turn-requires
-    add-x
-    loop-less
-    loop-again
+    add-movers-requires
+    settle-requires
+    capabilities-requires-2
     same-length
-    returns-2)
+    same-length-2
+    returns
+    loop-less
+    loop-again)

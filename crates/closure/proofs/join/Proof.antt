@@ -1,7 +1,9 @@
 -- `closure::join` meets its contract.
+use Rattle.closure.specs.Laws.{join-rows}
+use Rattle.closure.specs.Marks.{marked-then}
 use borrow.Author.Needs.{needs}
-use mathlib.Core.Path.{refl}
-use Rattle.closure.specs.Laws.{joined}
+use mathlib.Core.Logic.{inl}
+use native.Mathlib.Omega.{arith}
 use Rattle.closure.proofs.join.Statement.{statement}
 use Rattle.closure.proofs.join.Tie as tie
 
@@ -26,39 +28,30 @@ mul-high-2 c = search needs
 slice-read-high : tie.Need-slice-read-high
 slice-read-high c = search needs
 
-mul-w : tie.Need-mul-w
-mul-w c = search needs
+mul-gain : tie.Need-mul-gain
+mul-gain c = search needs
 
-mul-w-2 : tie.Need-mul-w-2
-mul-w-2 c = search needs
+gain-requires : tie.Need-gain-requires
+gain-requires c κs = search needs
 
-slice-read-w : tie.Need-slice-read-w
-slice-read-w c = search needs
+mul-gain-2 : tie.Need-mul-gain-2
+mul-gain-2 c = search needs
 
-slice-write-w : tie.Need-slice-write-w
-slice-write-w c = search needs
+add-gain : tie.Need-add-gain
+add-gain c = search needs
 
-mul-w-3 : tie.Need-mul-w-3
-mul-w-3 c = search needs
-
-add-w : tie.Need-add-w
-add-w c = search needs
-
-mul-w-4 : tie.Need-mul-w-4
-mul-w-4 c = search needs
-
-slice-read-w-2 : tie.Need-slice-read-w-2
-slice-read-w-2 c = search needs
-
-slice-write-w-2 : tie.Need-slice-write-w-2
-slice-write-w-2 c = search needs
+gain-requires-2 : tie.Need-gain-requires-2
+gain-requires-2 c κs = search needs
 
 same-length : tie.Need-same-length
 same-length c = search needs
 
 returns : tie.Need-returns
-unfolding joined
-returns c = refl
+returns c =
+    let a = c .before .before .before .before .before .before .before .before .before .before .before .args in
+    let x = c .before .before .before .before .before .before .gain in
+    let y = c .before .before .gain2 in
+    (join-rows (a .w .now) (a .p) (a .b) (x .ensures .0) (y .ensures .0), marked-then (x .ensures .1) (y .ensures .1) (λ r e. inl (omega arith)) (λ r e. inl (omega arith)))
 
 pub join-spec : {M : Type 1} → statement M
 join-spec =
@@ -71,14 +64,10 @@ join-spec =
     add-high
     mul-high-2
     slice-read-high
-    mul-w
-    mul-w-2
-    slice-read-w
-    slice-write-w
-    mul-w-3
-    add-w
-    mul-w-4
-    slice-read-w-2
-    slice-write-w-2
+    mul-gain
+    gain-requires
+    mul-gain-2
+    add-gain
+    gain-requires-2
     same-length
     returns)

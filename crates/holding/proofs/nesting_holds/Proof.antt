@@ -39,11 +39,8 @@ add-record-at c = let s = c .before .before .before .before in let h = valid-few
 record-at-requires : tie.Need-record-at-requires Inv-loop μ-loop
 record-at-requires c κs = tt
 
-add-container-of : tie.Need-add-container-of Inv-loop μ-loop
-add-container-of c = let s = c .before .before .before .before .before .before .before in let h = valid-few (s .args .it .now) (s .pre .0) in omega arith
-
-container-of-requires : tie.Need-container-of-requires Inv-loop μ-loop
-container-of-requires c κs = valid-whole (c .before .before .before .before .before .before .before .args .it .now) (c .before .before .before .before .before .before .before .pre .0)
+container-below-requires : tie.Need-container-below-requires Inv-loop μ-loop
+container-below-requires c κs = valid-whole (c .before .before .before .before .before .before .before .args .it .now) (c .before .before .before .before .before .before .before .pre .0)
 
 stands-requires : tie.Need-stands-requires Inv-loop μ-loop
 unfolding count
@@ -54,7 +51,7 @@ stands-requires c κs =
     let r = c .before .before .before .record-at in
     let h = valid-few it (s .pre .0) in
     let e : l .i + 1 ≤ count (s .args .it .now) = omega arith in
-    let k = stands it (s .pre .0) (l .i) e (r .result) (r .ensures) (c .container-of .result) (c .container-of .ensures) (c .before .if1 .taken) in (s .pre .1, (k .above, read-shape it (l .i + 1) (r .result) (s .pre .0) e (r .ensures)))
+    let k = stands it (s .pre .0) (l .i) e (r .result) (r .ensures) (c .container-below .result) (c .container-below .ensures) (c .before .if1 .taken) in (s .pre .1, (k .above, read-shape it (l .i + 1) (r .result) (s .pre .0) e (r .ensures)))
 
 returns : tie.Need-returns Inv-loop μ-loop
 unfolding nestsHold count
@@ -65,7 +62,7 @@ returns c =
     let r = c .before .before .before .before .before .record-at in
     let h = valid-few it (s .pre .0) in
     let e : l .i + 1 ≤ count (s .args .it .now) = omega arith in
-    let q = c .before .before .container-of in
+    let q = c .before .before .container-below in
     let k = stands it (s .pre .0) (l .i) e (r .result) (r .ensures) (q .result) (q .ensures) (c .before .before .before .if1 .taken) in
     let n = length-records it in
     one-fails (length (records it)) _ _ (l .i) (omega arith) (k .test) (sym (read-stood it (s .pre .0) (l .i) e (r .result) (r .ensures) _ (q .result) (q .ensures)) ∙ sym (c .before .stands .ensures) ∙ not-true _ (c .if2 .taken))
@@ -104,8 +101,7 @@ nesting-holds-spec =
     loop-holds
     add-record-at
     record-at-requires
-    add-container-of
-    container-of-requires
+    container-below-requires
     stands-requires
     returns
     add-i

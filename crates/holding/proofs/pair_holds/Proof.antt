@@ -1,96 +1,56 @@
 -- `holding::pair_holds` meets its contract.
+use Rattle.closure.specs.Cells.{Bits}
+use Rattle.holding.specs.Laws.{decide-no, pair-open, pair-shut}
+use Rattle.model.specs.Tables.{bits}
 use borrow.Author.Needs.{needs}
 use borrow.Author.Tests.{not-false, not-true}
 use mathlib.Core.Path.{_∙_, sym}
-use Rattle.holding.specs.Laws.{pair-not, pair-other, pair-suspect, rows-inside}
-use Rattle.model.specs.Tables.{placeS}
 use Rattle.holding.proofs.pair_holds.Statement.{statement}
 use Rattle.holding.proofs.pair_holds.Tie as tie
 
-mul-x : tie.Need-mul-x
-mul-x c = search needs
-
-add-x-end : tie.Need-add-x-end
-add-x-end c = search needs
-
-mul-y : tie.Need-mul-y
-mul-y c = search needs
-
-add-y-end : tie.Need-add-y-end
-add-y-end c = search needs
-
-sub-row-included : tie.Need-sub-row-included
-sub-row-included c = search needs
-
-part-row-included-start : tie.Need-part-row-included-start
-part-row-included-start c = search needs
-
-part-row-included-end : tie.Need-part-row-included-end
-part-row-included-end c = search needs
-
-sub-row-included-2 : tie.Need-sub-row-included-2
-sub-row-included-2 c = search needs
-
-part-row-included-start-2 : tie.Need-part-row-included-start-2
-part-row-included-start-2 c = search needs
-
-part-row-included-end-2 : tie.Need-part-row-included-end-2
-part-row-included-end-2 c = search needs
-
-row-included-requires : tie.Need-row-included-requires
-row-included-requires c κs = search needs
+moves-hold-requires : tie.Need-moves-hold-requires
+moves-hold-requires c κs = search needs
 
 returns : tie.Need-returns
-returns c =
-    let a = c .before .before .before .before .before .args in
-    let e = c .before .row-included .ensures ∙ rows-inside (a .table .now) (a .b) (a .p) in
-    pair-not _ _ _ (sym e ∙ not-true _ (c .if1 .taken))
+returns c = decide-no _ (λ f. c .before .moves-hold .ensures .passes (f .moves)) (not-true _ (c .if1 .taken))
 
-add-bit : tie.Need-add-bit
-add-bit c = search needs
+add-bit-of : tie.Need-add-bit-of
+add-bit-of c = search needs
 
-bit-requires : tie.Need-bit-requires
-bit-requires c κs = search needs
+mul-bit-of : tie.Need-mul-bit-of
+mul-bit-of c = search needs
 
-add-bit-2 : tie.Need-add-bit-2
-add-bit-2 c = search needs
+shared-slice-read-bit-of : tie.Need-shared-slice-read-bit-of
+shared-slice-read-bit-of c = search needs
 
-bit-requires-2 : tie.Need-bit-requires-2
-bit-requires-2 c κs = search needs
+bit-of-requires : tie.Need-bit-of-requires
+bit-of-requires c κs = search needs
+
+open-holds-requires : tie.Need-open-holds-requires
+open-holds-requires c κs = search needs
 
 returns-2 : tie.Need-returns-2
-unfolding placeS
 returns-2 c =
-    let a = c .before .before .before .before .before .before .before .before .args in
-    let e = c .before .before .before .before .row-included .ensures ∙ rows-inside (a .table .now) (a .b) (a .p) in
-    c .bit2 .ensures ∙ pair-suspect _ _ _ (sym e ∙ not-false _ (c .before .before .before .if1 .left)) (sym (c .before .before .bit .ensures) ∙ c .before .if2 .taken)
+    let s = c .before .before .before .before .before .before .before .before .before in
+    let a = s .args in
+    pair-open (a .movers .now) (a .p) (a .b) (Bits (a .w .now)) (bits (a .table .now)) (c .open-holds .result) (s .pre .1 .1 .0) (c .before .before .before .before .before .moves-hold .ensures .holds (not-false _ (c .before .before .before .before .if1 .left)))
+    (sym (c .before .before .bit-of .ensures) ∙ c .before .if2 .taken) (c .open-holds .ensures)
 
 returns-3 : tie.Need-returns-3
-unfolding placeS
 returns-3 c =
-    let a = c .before .before .before .before .before .before .before .args in
-    let e = c .before .before .before .row-included .ensures ∙ rows-inside (a .table .now) (a .b) (a .p) in
-    pair-other _ _ _ (sym e ∙ not-false _ (c .before .before .if1 .left)) (sym (c .before .bit .ensures) ∙ c .if2 .left)
+    let a = c .before .before .before .before .before .before .before .before .args in
+    pair-shut (a .movers .now) (a .p) (a .b) (Bits (a .w .now)) (c .before .before .before .before .moves-hold .ensures .holds (not-false _ (c .before .before .before .if1 .left))) (sym (c .before .bit-of .ensures) ∙ c .if2 .left)
 
 pub pair-holds-spec : {M : Type 1} → statement M
 pair-holds-spec =
     tie.close
     (tie.spec
-    mul-x
-    add-x-end
-    mul-y
-    add-y-end
-    sub-row-included
-    part-row-included-start
-    part-row-included-end
-    sub-row-included-2
-    part-row-included-start-2
-    part-row-included-end-2
-    row-included-requires
+    moves-hold-requires
     returns
-    add-bit
-    bit-requires
-    add-bit-2
-    bit-requires-2
+    add-bit-of
+    mul-bit-of
+    shared-slice-read-bit-of
+    bit-of-requires
+    open-holds-requires
     returns-2
     returns-3)

@@ -33,21 +33,18 @@ add-record-at c = let s = c .before .before .before .before in let h = valid-few
 record-at-requires : tie.Need-record-at-requires Inv-loop μ-loop
 record-at-requires c κs = tt
 
-add-container-of : tie.Need-add-container-of Inv-loop μ-loop
-add-container-of c = let s = c .before .before .before .before .before .before .before in let h = valid-few (s .args .it .now) (s .pre .1) in omega arith
-
-container-of-requires : tie.Need-container-of-requires Inv-loop μ-loop
-container-of-requires c κs = valid-whole (c .before .before .before .before .before .before .before .args .it .now) (c .before .before .before .before .before .before .before .pre .1)
+container-below-requires : tie.Need-container-below-requires Inv-loop μ-loop
+container-below-requires c κs = valid-whole (c .before .before .before .before .before .before .before .args .it .now) (c .before .before .before .before .before .before .before .pre .1)
 
 -- a record of a valid itinerary has its bit within the table
-known : (c : tie.After-container-of Inv-loop μ-loop) →
-    (c .before .before .before .record-at .result .label < 128) × (c .container-of .result < 64) × (length (c .before .before .before .before .before .loop .table) ≡ 1544)
+known : (c : tie.After-container-below Inv-loop μ-loop) →
+    (c .before .before .before .record-at .result .label < 128) × (c .container-below .result < 64) × (length (c .before .before .before .before .before .loop .table) ≡ 1544)
 unfolding count
 known c =
     let s = c .before .before .before .before .before .before .before .before in
     let l = c .before .before .before .before .before .loop in
     let r = c .before .before .before .record-at in
-    let k = stands (s .args .it .now) (s .pre .1) (l .i) (omega arith) (r .result) (r .ensures) (c .container-of .result) (c .container-of .ensures) (c .before .if1 .taken) in
+    let k = stands (s .args .it .now) (s .pre .1) (l .i) (omega arith) (r .result) (r .ensures) (c .container-below .result) (c .container-below .ensures) (c .before .if1 .taken) in
     (k .label, k .above, l .inv .0 ∙ s .pre .0)
 
 cast-set-bit : tie.Need-cast-set-bit Inv-loop μ-loop
@@ -115,8 +112,7 @@ fill-nesting-spec =
     loop-holds
     add-record-at
     record-at-requires
-    add-container-of
-    container-of-requires
+    container-below-requires
     cast-set-bit
     mul-set-bit
     cast-set-bit-2

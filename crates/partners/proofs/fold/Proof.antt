@@ -1,83 +1,40 @@
 -- `partners::fold` meets its contract.
-use Prim.Native.Nat.{_+_, _-_, _/_, _≤_, ℕ}
-use lib.ListN.{length}
-use mathlib.Core.Path.{_∙_, _≡_, refl, subst, sym}
-use native.Mathlib.Omega.{arith}
-use Rattle.itinerary.specs.Laws.{valid-few}
-use Rattle.model.specs.Laws.Bytes.{at-decode}
-use Rattle.model.specs.Records.{count, records}
-use Rattle.partners.specs.Fold.{Folds}
-use Rattle.partners.specs.Laws.{folds-next, folds-none, names, read-shape}
+use Rattle.itinerary.specs.Laws.{getD-zero}
+use Rattle.model.specs.Laws.Bytes.{valid-wf}
+use Rattle.partners.specs.Laws.{folds-names}
+use borrow.Author.Needs.{needs}
 use Rattle.partners.proofs.fold.Statement.{statement}
 use Rattle.partners.proofs.fold.Tie as tie
 
-abbrev Inv-loop : tie.InvT-loop
-Inv-loop partners₀ w it n i₀ partners i = (length partners ≡ length partners₀) × (i ≤ length it / 8) × Folds (records it) (names w) i partners
+slice-aggregate-transpose : tie.Need-slice-aggregate-transpose
+slice-aggregate-transpose c = search needs
 
-abbrev μ-loop : tie.MeasureT-loop
-μ-loop partners₀ w it n i₀ partners i = length it / 8 - i
+transpose-requires : tie.Need-transpose-requires
+transpose-requires c κs = search needs
 
-cast-n : tie.Need-cast-n Inv-loop μ-loop
-cast-n c = let s = c .before .before .before in let h = valid-few (s .args .it .now) (s .pre .1 .1 .1) in omega arith
+slice-aggregate-aim-all : tie.Need-slice-aggregate-aim-all
+slice-aggregate-aim-all c = search needs
 
-loop-holds : tie.Need-loop-holds Inv-loop μ-loop
-loop-holds c = let s = c .before .before .before in (refl, omega arith, folds-none (records (s .args .it .now)) (names (s .args .w .now)) (s .args .partners .now) (s .pre .1 .0))
+aim-all-requires : tie.Need-aim-all-requires
+aim-all-requires c κs = search needs
 
-add-record-at : tie.Need-add-record-at Inv-loop μ-loop
-add-record-at c = let s = c .before .before .before .before .before in let h = valid-few (s .args .it .now) (s .pre .1 .1 .1) in omega arith
+same-length : tie.Need-same-length
+same-length c = search needs
 
-record-at-requires : tie.Need-record-at-requires Inv-loop μ-loop
-record-at-requires c κs = tt
-
-aim-requires : tie.Need-aim-requires Inv-loop μ-loop
-unfolding count
-aim-requires c κs =
-    let s = c .before .before .before .before .before .before .before in
-    let l = c .before .before .before .loop in
-    (l .inv .0 ∙ s .pre .0, (s .pre .1 .1 .0, read-shape (s .args .it .now) (l .i + 1) (c .before .record-at .result) (s .pre .1 .1 .1) (omega arith) (c .before .record-at .ensures)))
-
-add-i : tie.Need-add-i Inv-loop μ-loop
-add-i c = let s = c .before .before .before .before .before .before .before .before .before .before in let h = valid-few (s .args .it .now) (s .pre .1 .1 .1) in omega arith
-
-loop-less : tie.Need-loop-less Inv-loop μ-loop
-loop-less c = omega arith
-
-loop-again : tie.Need-loop-again Inv-loop μ-loop
-unfolding count
-loop-again c =
-    let s = c .before .before .before .before .before .before .before .before .before .before in
-    let l = c .before .before .before .before .before .before .loop in
-    let q = c .before .before .aim in
-    let r = c .before .before .before .before .record-at in (
-      q .kept .0 ∙ l .inv .0,
-      omega arith,
-      folds-next (records (s .args .it .now)) (names (s .args .w .now)) (l .i) (l .partners) (q .last .0) (r .result) (r .ensures ∙ sym (at-decode (s .args .it .now) (l .i + 1) (omega arith))) (l .inv .2) (q .ensures),
-    )
-
-same-length : tie.Need-same-length Inv-loop μ-loop
-same-length c = c .before .loop .inv .0
-
-returns : tie.Need-returns Inv-loop μ-loop
-unfolding count
+returns : tie.Need-returns
 returns c =
-    let s = c .before .before .before .before .before in
-    let l = c .before .loop in
-    let e : l .i ≡ length (s .args .it .now) / 8 = omega arith in
-    subst (λ (i : ℕ). Folds (records (s .args .it .now)) (names (s .args .w .now)) i (l .partners)) e (l .inv .2)
+    let s = c .before .before .before .before .before .before .before .before .before .before .before in
+    let t = c .before .before .before .before .before .before .transpose in
+    let q = c .before .before .aim-all in
+    folds-names (valid-wf (s .args .it .now) (s .pre .1 .1 .1)) (s .args .w .now) _ (t .last .0) (getD-zero 64) (t .ensures) _ (q .last .0) (q .ensures)
 
 pub fold-spec : {M : Type 1} → statement M
 fold-spec =
     tie.close
     (tie.spec
-    Inv-loop
-    μ-loop
-    cast-n
-    loop-holds
-    add-record-at
-    record-at-requires
-    aim-requires
-    add-i
-    loop-less
-    loop-again
+    slice-aggregate-transpose
+    transpose-requires
+    slice-aggregate-aim-all
+    aim-all-requires
     same-length
     returns)

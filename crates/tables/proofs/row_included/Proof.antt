@@ -1,37 +1,28 @@
 -- `tables::row_included` meets its contract.
-use Prim.Native.Nat.{_-_, _<_, _≤_, ℕ}
-use borrow.Author.Count.{below-more}
-use lib.Bits.{bitOr}
-use lib.ListN.{getD}
-use mathlib.Core.Path.{_≡_}
+use Prim.Native.Nat.{_-_, _<_, _≤_}
+use Rattle.model.specs.Laws.Sets.{Narrow}
+use Rattle.tables.specs.Loops.{Extra, extra-end, extra-next, extra-none}
 use native.Mathlib.Omega.{arith}
-use Rattle.tables.specs.Loops.{row-no, row-yes}
 use Rattle.tables.proofs.row_included.Statement.{statement}
 use Rattle.tables.proofs.row_included.Tie as tie
 
 abbrev Inv-loop : tie.InvT-loop
-Inv-loop x y i₀ i = (i ≤ 16) × ((k : ℕ) → k < i → bitOr (getD x k 0) (getD y k 0) ≡ getD y k 0)
+Inv-loop x y extra₀ i₀ extra i = (i ≤ 16) × (0 < i → Narrow 8 x × Narrow 8 y) × Extra x y i extra
 
 abbrev μ-loop : tie.MeasureT-loop
-μ-loop x y i₀ i = 16 - i
+μ-loop x y extra₀ i₀ extra i = 16 - i
 
 loop-holds : tie.Need-loop-holds Inv-loop μ-loop
-loop-holds c = (omega arith, λ k l. absurd (omega arith))
+loop-holds c = (omega arith, (λ h. absurd (omega arith)), extra-none (c .args .x .now) (c .args .y .now))
 
-shared-slice-read-if1 : tie.Need-shared-slice-read-if1 Inv-loop μ-loop
-shared-slice-read-if1 c = omega arith
+shared-slice-read-extra : tie.Need-shared-slice-read-extra Inv-loop μ-loop
+shared-slice-read-extra c = omega arith
 
-shared-slice-read-if1-2 : tie.Need-shared-slice-read-if1-2 Inv-loop μ-loop
-shared-slice-read-if1-2 c = omega arith
+shared-slice-read-extra-2 : tie.Need-shared-slice-read-extra-2 Inv-loop μ-loop
+shared-slice-read-extra-2 c = omega arith
 
-shared-slice-read-if1-3 : tie.Need-shared-slice-read-if1-3 Inv-loop μ-loop
-shared-slice-read-if1-3 c = omega arith
-
-returns : tie.Need-returns Inv-loop μ-loop
-returns c =
-    let a = c .before .before .before .before .before .before .args in
-    let i = c .before .before .before .before .before .loop .i in
-    row-no (a .x .now) (a .y .now) i (omega arith) (c .before .before .before .shared-slice-known .given i .fits) (c .before .before .shared-slice-known2 .given i .fits) (c .if1 .taken)
+shared-slice-read-extra-3 : tie.Need-shared-slice-read-extra-3 Inv-loop μ-loop
+shared-slice-read-extra-3 c = omega arith
 
 add-i : tie.Need-add-i Inv-loop μ-loop
 add-i c = omega arith
@@ -40,10 +31,17 @@ loop-less : tie.Need-loop-less Inv-loop μ-loop
 loop-less c = omega arith
 
 loop-again : tie.Need-loop-again Inv-loop μ-loop
-loop-again c = (omega arith, below-more _ _ (c .before .before .before .before .before .loop .inv .1) (c .if1 .left))
+loop-again c =
+    let a = c .before .before .before .before .before .args in
+    let l = c .before .before .before .before .loop in
+    (omega arith, (λ _. ((λ k. c .before .before .shared-slice-known .given k .fits), (λ k. c .before .shared-slice-known2 .given k .fits))), extra-next (a .x .now) (a .y .now) (l .i) (l .extra) (l .inv .2))
 
-returns-2 : tie.Need-returns-2 Inv-loop μ-loop
-returns-2 c = row-yes (c .before .before .args .x .now) (c .before .before .args .y .now) (λ k l. c .before .loop .inv .1 k (omega arith))
+returns : tie.Need-returns Inv-loop μ-loop
+returns c =
+    let a = c .before .before .args in
+    let l = c .before .loop in
+    let n = l .inv .1 (omega arith) in
+    extra-end (a .x .now) (a .y .now) (l .i) (l .extra) (omega arith) (n .0) (n .1) (l .inv .2)
 
 pub row-included-spec : {M : Type 1} → statement M
 row-included-spec =
@@ -52,11 +50,10 @@ row-included-spec =
     Inv-loop
     μ-loop
     loop-holds
-    shared-slice-read-if1
-    shared-slice-read-if1-2
-    shared-slice-read-if1-3
-    returns
+    shared-slice-read-extra
+    shared-slice-read-extra-2
+    shared-slice-read-extra-3
     add-i
     loop-less
     loop-again
-    returns-2)
+    returns)
