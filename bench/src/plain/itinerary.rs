@@ -108,20 +108,49 @@ pub fn validate(itinerary: &[u8]) -> Result<u16, Refusal> {
     }
 }
 
-/// The label of the nearest ambient from `number` on upwards.
-pub fn nearest(itinerary: &[u8], number: u16) -> u8 {
+/// What is not yet decided among the nearest labels.
+const UNDECIDED: u8 = 255;
+
+/// The label of the nearest ambient from `number` on upwards: climbs to a number that
+/// is decided or to an ambient, then notes the label for the records passed.
+fn nearest(itinerary: &[u8], labels: &mut [u8; 1025], number: u16) -> u8 {
     let mut at = number;
-    while at != 0 {
+    let found = loop {
+        if labels[usize::from(at)] != UNDECIDED {
+            break labels[usize::from(at)];
+        }
         let record = Record::at(itinerary, at);
         if record.kind == AMBIENT {
-            return record.label;
+            labels[usize::from(at)] = record.label;
+            break record.label;
         }
         at = record.parent;
+    };
+    at = number;
+    while labels[usize::from(at)] == UNDECIDED {
+        labels[usize::from(at)] = found;
+        at = Record::at(itinerary, at).parent;
     }
-    0
+    found
+}
+
+/// Only the environment is decided.
+fn undecided() -> [u8; 1025] {
+    let mut labels = [UNDECIDED; 1025];
+    labels[0] = 0;
+    labels
+}
+
+/// The label of the nearest ambient from each number on upwards.
+pub fn nearest_labels(itinerary: &[u8]) -> [u8; 1025] {
+    let mut labels = undecided();
+    for number in 1..=(itinerary.len() / RECORD) as u16 {
+        nearest(itinerary, &mut labels, number);
+    }
+    labels
 }
 
 pub fn container(itinerary: &[u8], number: u16) -> Result<u8, Refusal> {
     validate(itinerary)?;
-    Ok(nearest(itinerary, Record::at(itinerary, number).parent))
+    Ok(nearest(itinerary, &mut undecided(), Record::at(itinerary, number).parent))
 }

@@ -1,7 +1,7 @@
 //! Policy and table: refusals 7 and 8, check, maker and verdict.
 
 use super::closure::{transposed, Partners};
-use super::itinerary::{nearest, records, validate, AMBIENT, IN};
+use super::itinerary::{nearest_labels, records, validate, AMBIENT, IN};
 use super::refuse;
 use birnsket::{Refusal, Verdict, TABLE_LENGTH};
 
@@ -61,8 +61,9 @@ impl Table {
     fn base(itinerary: &[u8], policy: &[u8]) -> Table {
         let mut table = Table::empty();
         table.suspects = highs(policy);
+        let labels = nearest_labels(itinerary);
         for record in records(itinerary).filter(|record| record.kind != 0) {
-            let outer = usize::from(nearest(itinerary, record.parent));
+            let outer = usize::from(labels[usize::from(record.parent)]);
             if record.kind == AMBIENT {
                 table.ambients[outer] |= 1 << record.label;
                 table.names[usize::from(record.label)] |= 1 << record.name;
@@ -86,10 +87,11 @@ impl Table {
 
     /// Whether all records may stand where they stand and bear their names.
     fn nests(&self, itinerary: &[u8]) -> bool {
+        let labels = nearest_labels(itinerary);
         records(itinerary).filter(|record| record.kind != 0).all(|record| {
             let named =
                 record.kind != AMBIENT || self.names[usize::from(record.label)] >> record.name & 1 == 1;
-            named && self.has(nearest(itinerary, record.parent), record.label)
+            named && self.has(labels[usize::from(record.parent)], record.label)
         })
     }
 

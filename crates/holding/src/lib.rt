@@ -6,6 +6,7 @@ ghost use Prim.Native.Nat.{ℕ, _<_};
 ghost use lib.ListN.{length};
 ghost use Rattle.closure.specs.Cells.{Bits};
 ghost use Rattle.closure.specs.Rules.{Decides};
+ghost use Rattle.itinerary.specs.Known.{Nearests};
 ghost use Rattle.model.specs.Analysis.{free, holds};
 ghost use Rattle.model.specs.Finite.{every};
 ghost use Rattle.model.specs.Laws.WellFormed.{shape};
@@ -51,10 +52,12 @@ fn stands(table: &[u8], container: u8, r: Rec) -> bool
     tables::bit(table, 8192 + (64 * label + (r.name as usize)))
 }
 
-// Whether every ambient and capability may stand where it stands and every ambient bear its name. (inner)
-fn nesting_holds(it: &[u8], table: &[u8]) -> bool
+// Whether every ambient and capability may stand where it stands and every ambient bear its name, with the nearest labels
+// from each number on upwards. (inner)
+fn nests_hold(it: &[u8], table: &[u8], labels: &[u8]) -> bool
     requires { ⌜ validity (now it) ≡ pass ⌝ }
     requires { ⌜ length (now table) ≡ 1544 ⌝ }
+    requires { ⌜ Nearests (now it) (now labels) ⌝ }
     ensures { λ r. ⌜ r ≡ nestsHold (records (now (it .entry))) (parts (bits (now (table .entry)))) ⌝ }
 {
     let n = (it.len() / 8) as u16;
@@ -62,13 +65,25 @@ fn nesting_holds(it: &[u8], table: &[u8]) -> bool
     while i < n {
         let r = itinerary::record_at(it, i + 1);
         if 1 <= r.kind {
-            if !stands(table, itinerary::container_below(it, r.parent), r) {
+            if !stands(table, labels[r.parent as usize], r) {
                 return false;
             }
         }
         i += 1;
     }
     true
+}
+
+// Whether every ambient and capability may stand where it stands and every ambient bear its name. (inner)
+fn nesting_holds(it: &[u8], table: &[u8]) -> bool
+    requires { ⌜ validity (now it) ≡ pass ⌝ }
+    requires { ⌜ length (now table) ≡ 1544 ⌝ }
+    ensures { λ r. ⌜ r ≡ nestsHold (records (now (it .entry))) (parts (bits (now (table .entry)))) ⌝ }
+{
+    let mut labels = [255u8; 1025];
+    labels[0] = 0;
+    itinerary::nearest_labels(it, &mut labels);
+    nests_hold(it, table, &labels)
 }
 
 // Whether all labels of x are labels of y.

@@ -4,9 +4,11 @@ use lib.ListN.{getD, length}
 use mathlib.Core.Bool.{Bool, _&&_, false, true}
 use mathlib.Core.List.{List}
 use mathlib.Core.Path.{_≡_}
-use Rattle.model.specs.Climbing.{reaches, reaching, viewFrom}
+use Rattle.model.specs.Climbing.{nearest, reaches, reaching, viewFrom}
+use Rattle.model.specs.Laws.Forest.{Depth}
 use Rattle.model.specs.Records.{count, decode, isAmbient, parentOf, records}
-use Rattle.model.specs.Validity.{goneRight, kindRight, spareRight}
+use Rattle.model.specs.Refusals.{pass}
+use Rattle.model.specs.Validity.{goneRight, kindRight, spareRight, validity}
 use Rattle.model.specs.declared.Reading.{Reading}
 use Rattle.model.specs.declared.Reading.the-variants.{Record, Refused}
 use Rattle.model.specs.declared.Rec.{Rec}
@@ -45,3 +47,30 @@ pub record Climbable (s known : List ℕ) : Type 0 where
 pub record Enough (s : List ℕ) (left i : ℕ) : Type 0 where
   pub inside : i ≤ count s
   pub decides : viewFrom reaching (records s) left i ≡ reaches (records s) i
+
+-- number i is within the count, and left climbs from it reach the environment
+pub record Near (s : List ℕ) (left i : ℕ) : Type 0 where
+  pub inside : i ≤ count s
+  pub near : (d : ℕ) × (d ≤ left) × Depth (parentOf (records s)) i d
+
+-- what stands among labels below 64 is decided: the nearest label from that number on upwards, the environment's among them
+pub record Labels (s labels : List ℕ) : Type 0 where
+  pub root : getD labels 0 0 ≡ 0
+  pub told : (j : ℕ) → j ≤ count s → getD labels j 0 < 64 → getD labels j 0 ≡ nearest (records s) j
+
+-- a valid itinerary, with a place for the label of each number
+pub record Labelable (s labels : List ℕ) : Type 0 where
+  pub valid : validity s ≡ pass
+  pub room : count s < length labels
+  pub decided : Labels s labels
+
+-- number i is decided as well
+pub record Labelled (s labels : List ℕ) (i : ℕ) (labels′ : List ℕ) : Type 0 where
+  pub decided : Labels s labels′
+  pub stays : (j : ℕ) → getD labels j 0 < 64 → getD labels′ j 0 < 64
+  pub here : getD labels′ i 0 < 64
+
+-- all are decided
+pub record Nearests (s labels : List ℕ) : Type 0 where
+  pub room : count s < length labels
+  pub is : (j : ℕ) → j ≤ count s → getD labels j 0 ≡ nearest (records s) j

@@ -248,17 +248,10 @@ module _ {A : Type 0} (v : View A) (s : List ℕ) (left i : ℕ) where
       let w : at (records s) i ≡ r = at-whole s m i ∙ sym e in
       ap (λ k. viewFrom v (records s) k i) u ∙ from-on v (records s) (left - 1) i n ∙ ap (λ x. v .make x (viewFrom v (records s) (left - 1) (x .parent))) w
 
-  pub two-fewer : viewFrom v (records s) (left - 1 - 1) i ≡ viewFrom v (records s) (left - 2) i
-  two-fewer = let u : left - 1 - 1 ≡ left - 2 = omega arith in ap (λ k. viewFrom v (records s) k i) u
-
 -- as many climbs as a view takes
 pub view-from : {A : Type 0} (v : View A) (s : List ℕ) (i : ℕ) → viewFrom v (records s) (length s / 8 + 1) i ≡ view v (records s) i
 unfolding view count
 view-from v s i = let e : length s / 8 + 1 ≡ suc (length (records s)) = omega (arith, length-records s) in ap (λ k. viewFrom v (records s) k i) e
-
--- the view at the parent of a record that was read
-pub view-above : {A : Type 0} (v : View A) (s : List ℕ) (i : ℕ) → length s % 8 ≡ 0 → (r : Rec) → r ≡ decode s i → view v (records s) (r .parent) ≡ view v (records s) (parentOf (records s) i)
-view-above v s i m r e = ap (λ x. view v (records s) (x .parent)) (e ∙ sym (at-whole s m i))
 
 -- ambients by their kind
 pub ambient-is : (r : Rec) → r .kind ≡ 1 → isAmbient r ≡ true

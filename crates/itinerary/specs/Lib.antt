@@ -1,4 +1,5 @@
 -- What the inner contracts cite, and laws that the proofs cite.
 pub mod Known
 pub mod Laws
+pub mod Nearest
 pub mod Written

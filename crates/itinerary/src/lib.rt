@@ -8,13 +8,13 @@ ghost use mathlib.Core.Path.{_≡_};
 ghost use Prim.Native.Nat.{_*_, _<_, _≤_, _%_};
 ghost use lib.ListN.{length};
 ghost use Rattle.model.specs.Records.{byteOf, count, decode, nested, records, word};
-ghost use Rattle.model.specs.Climbing.{container, nesting, reaches, standing, view, viewFrom};
-ghost use Rattle.model.specs.Refusals.{answer, eachOf};
-ghost use Rattle.model.specs.Validity.{climbCheck, goneRight, labelRight, nameRight, parentRight, recordCheck, spareRight};
+ghost use Rattle.model.specs.Climbing.{container, nearest, reaches, standing, viewFrom};
+ghost use Rattle.model.specs.Refusals.{answer, eachOf, pass};
+ghost use Rattle.model.specs.Validity.{climbCheck, goneRight, labelRight, nameRight, parentRight, recordCheck, spareRight, validity};
 ghost use Rattle.model.specs.Calls.{containerAnswer, validateAnswer};
 ghost use Rattle.model.specs.Numbers.{containedAs, readingOf, validatedAs};
 ghost use Rattle.itinerary.specs.Written.{withRecord};
-ghost use Rattle.itinerary.specs.Known.{Climbable, Enough, Known, Parented, formRight, readingNumber, upFrom};
+ghost use Rattle.itinerary.specs.Known.{Climbable, Enough, Known, Labelable, Labelled, Near, Nearests, Parented, formRight, readingNumber, upFrom};
 
 // Byte k of record i, 0 where there is none; inner.
 pub fn byte_of(it: &[u8], i: u16, k: usize) -> u8
@@ -273,33 +273,41 @@ pub fn validate(it: &[u8]) -> Validated
     climbs(it, n)
 }
 
-// The label of the nearest ambient from number i on upwards, with at most left climbs; inner. Two records a call: a
-// call costs more than a record.
-pub fn nearest(it: &[u8], i: u16, left: usize) -> u8
-    requires { ⌜ length (now it) % 8 ≡ 0 ⌝ }
-    ensures { λ r. ⌜ r ≡ viewFrom nesting (records (now (it .entry))) left i ⌝ }
+// The label of the nearest ambient from record i on upwards; inner. A label in labels is decided, 0 for the environment;
+// it is looked up at the parent, and the climb notes it for the records it passed, so that none is climbed from twice.
+fn nearest(it: &[u8], labels: &mut [u8], i: u16, left: usize) -> u8
+    requires { ⌜ (Labelable (now it) (now labels)) × (Near (now it) left i) × (1 ≤ i) ⌝ }
+    ensures { λ r. ⌜ (r ≡ nearest (records (now (it .entry))) i) × (Labelled (now (it .entry)) (now (labels .entry)) i (now (labels .exit))) ⌝ }
 {
-    if i == 0 {
-        return 0;
+    let r = record_at(it, i);
+    if r.kind == 1 {
+        labels[i as usize] = r.label;
+        return r.label;
+    }
+    let above = labels[r.parent as usize];
+    if above < 64 {
+        labels[i as usize] = above;
+        return above;
     }
     if left == 0 {
         return 0;
     }
-    let r = record_at(it, i);
-    if r.kind == 1 {
-        return r.label;
+    let label = nearest(it, labels, r.parent, left - 1);
+    labels[i as usize] = label;
+    label
+}
+
+// The label of the nearest ambient from each number on upwards; inner.
+pub fn nearest_labels(it: &[u8], labels: &mut [u8])
+    requires { ⌜ Labelable (now it) (now labels) ⌝ }
+    ensures { λ _. ⌜ Nearests (now (it .entry)) (now (labels .exit)) ⌝ }
+{
+    let n = (it.len() / 8) as u16;
+    let mut i: u16 = 0;
+    while i < n {
+        nearest(it, labels, i + 1, n as usize);
+        i += 1;
     }
-    if r.parent == 0 {
-        return 0;
-    }
-    if left == 1 {
-        return 0;
-    }
-    let above = record_at(it, r.parent);
-    if above.kind == 1 {
-        return above.label;
-    }
-    nearest(it, above.parent, left - 2)
 }
 
 // The number above an ambient, and i itself where it is none: the environment and what bars the way stay.
@@ -328,28 +336,26 @@ pub fn ambients(it: &[u8], i: u16, left: usize) -> bool
     ambients(it, up(it, up(it, up(it, r.parent))), left - 4)
 }
 
-// The container of a record with this parent; inner. The parent is looked at here: for most records that spares the call.
-pub fn container_below(it: &[u8], parent: u16) -> u8
-    requires { ⌜ length (now it) % 8 ≡ 0 ⌝ }
-    ensures { λ r. ⌜ r ≡ view nesting (records (now (it .entry))) parent ⌝ }
-{
-    if parent == 0 {
-        return 0;
-    }
-    let above = record_at(it, parent);
-    if above.kind == 1 {
-        return above.label;
-    }
-    nearest(it, above.parent, it.len() / 8)
-}
-
-// The container of record i; inner.
-pub fn container_of(it: &[u8], i: u16) -> u8
-    requires { ⌜ length (now it) % 8 ≡ 0 ⌝ }
+// The container of record i, with labels to climb by; inner.
+fn container_by(it: &[u8], labels: &mut [u8], i: u16) -> u8
+    requires { ⌜ Labelable (now it) (now labels) ⌝ }
     ensures { λ r. ⌜ r ≡ container (records (now (it .entry))) i ⌝ }
 {
     let r = record_at(it, i);
-    container_below(it, r.parent)
+    if r.parent == 0 {
+        return 0;
+    }
+    nearest(it, labels, r.parent, it.len() / 8)
+}
+
+// The container of record i; inner.
+fn container_of(it: &[u8], i: u16) -> u8
+    requires { ⌜ validity (now it) ≡ pass ⌝ }
+    ensures { λ r. ⌜ r ≡ container (records (now (it .entry))) i ⌝ }
+{
+    let mut labels = [255u8; 1025];
+    labels[0] = 0;
+    container_by(it, &mut labels, i)
 }
 
 // The container of a record, after refusals 1 to 6; 0 for number 0, over the count or a gone record.

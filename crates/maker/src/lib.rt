@@ -3,6 +3,7 @@ ghost use mathlib.Core.Path.{_≡_};
 ghost use Prim.Native.Nat.{ℕ, _/_, _%_, _^_, _<_};
 ghost use lib.ListN.{length, getD};
 ghost use Rattle.closure.specs.Cells.{orAt};
+ghost use Rattle.itinerary.specs.Known.{Nearests};
 ghost use Rattle.model.specs.Analysis.{free};
 ghost use Rattle.model.specs.Least.{leastTable};
 ghost use Rattle.model.specs.Records.{count, records};
@@ -64,10 +65,11 @@ fn fill_high(table: &mut [u8], policy: &[u8])
     }
 }
 
-// Sets the bits of I that the itinerary's nesting asks for. (inner)
-fn fill_nesting(table: &mut [u8], it: &[u8])
+// Sets the bits of I that the itinerary's nesting asks for, with the nearest labels from each number on upwards. (inner)
+fn nest(table: &mut [u8], it: &[u8], labels: &[u8])
     requires { ⌜ length (now table) ≡ 1544 ⌝ }
     requires { ⌜ validity (now it) ≡ pass ⌝ }
+    requires { ⌜ Nearests (now it) (now labels) ⌝ }
     ensures { λ _. ⌜ Filled (standing (records (now (it .entry)))) (nestCell (records (now (it .entry)))) (count (now (it .entry))) (bits (now (table .entry))) (bits (now (table .exit))) ⌝ }
 {
     let n = (it.len() / 8) as u16;
@@ -75,11 +77,23 @@ fn fill_nesting(table: &mut [u8], it: &[u8])
     while i < n {
         let r = itinerary::record_at(it, i + 1);
         if 1 <= r.kind {
-            let container = itinerary::container_below(it, r.parent);
+            let container = labels[r.parent as usize];
             set_bit(table, 128 * (container as usize) + (r.label as usize));
         }
         i += 1;
     }
+}
+
+// Sets the bits of I that the itinerary's nesting asks for. (inner)
+fn fill_nesting(table: &mut [u8], it: &[u8])
+    requires { ⌜ length (now table) ≡ 1544 ⌝ }
+    requires { ⌜ validity (now it) ≡ pass ⌝ }
+    ensures { λ _. ⌜ Filled (standing (records (now (it .entry)))) (nestCell (records (now (it .entry)))) (count (now (it .entry))) (bits (now (table .entry))) (bits (now (table .exit))) ⌝ }
+{
+    let mut labels = [255u8; 1025];
+    labels[0] = 0;
+    itinerary::nearest_labels(it, &mut labels);
+    nest(table, it, &labels);
 }
 
 // Writes the table with what the itinerary and the policy ask for by themselves. (inner)

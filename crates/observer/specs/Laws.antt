@@ -1,5 +1,5 @@
 -- Laws of the sheet as the code makes it.
-use Prim.Native.Nat.{_-_, _<_, _≤_, suc, zero, ℕ}
+use Prim.Native.Nat.{_<_, _≤_, suc, zero, ℕ}
 use borrow.Author.Tests.{eq-eqb, ne-eqb}
 use lib.Dec.{eqb}
 use lib.ListN.{drop, drop-of-length-le, getD, length, length-replicate, length-set, set, take}
@@ -10,61 +10,30 @@ use mathlib.Core.Logic.{_≢_}
 use mathlib.Core.Path.{_∙_, _≡_, ap, ap₂, refl, sym}
 use native.Mathlib.Decide.{ℕ-discrete}
 use native.Mathlib.Omega.{arith}
-use Rattle.itinerary.specs.Laws.{ambient-is, content-kept, content-new, done-answer, getD-zero, need-refuse, refuse-answer, then-next, then-refuse, valid-few, valid-whole, zeros}
+use Rattle.itinerary.specs.Laws.{ambient-is, content-kept, content-new, done-answer, getD-zero, need-refuse, refuse-answer, then-next, then-refuse, valid-few, zeros}
+use Rattle.itinerary.specs.Nearest.{here}
 use Rattle.model.specs.Calls.{sheetAfter, sheetAnswer, showing}
 use Rattle.model.specs.Climbing.{hidden, isSuspect}
-use Rattle.model.specs.Laws.Bytes.{at-whole, length-records, valid-wf}
+use Rattle.model.specs.Laws.Bytes.{valid-wf}
 use Rattle.model.specs.Laws.Checks.{need-make}
 use Rattle.model.specs.Laws.Containers.{hidden-root, hidden-suspect, hidden-up}
-use Rattle.model.specs.Laws.Forest.{above, depth-le}
-use Rattle.model.specs.Laws.WellFormed.{WellFormed, parent-in, small}
 use Rattle.model.specs.Numbers.{refusal}
 use Rattle.model.specs.Observer.{onSheet, sheetOf}
-use Rattle.model.specs.Records.{at, count, decode, gone, isAmbient, parentOf, records}
+use Rattle.model.specs.Records.{count, decode, gone, records}
 use Rattle.model.specs.Refusals.{done, pass, refuse}
 use Rattle.model.specs.Tables.{suspects, tableRight}
 use Rattle.model.specs.Validity.{validity}
 use Rattle.model.specs.declared.Rec.{Rec}
 use Rattle.model.specs.declared.Refusal.{Refusal}
-use Rattle.observer.specs.Marks.{Markable, Marked, Near}
+use Rattle.observer.specs.Marks.{Markable, Marked}
 
 -- r is record i of a valid itinerary
-module _ (s : List ℕ) (v : validity s ≡ pass) (i : ℕ) (r : Rec) (e : r ≡ decode s i) where
-  here : at (records s) i ≡ r
-  here = at-whole s (valid-whole s v) i ∙ sym e
+module _ (s : List ℕ) (v : validity s ≡ pass) (i : ℕ) (r : Rec) (e : r ≡ decode s i) (S : ℕ → Bool) where
+  pub hidden-here : isSuspect S r ≡ true → hidden (records s) S i ≡ true
+  hidden-here h = hidden-suspect (valid-wf s v) S i (ap (isSuspect S) (here s v i r e) ∙ h)
 
-  wf : WellFormed (records s)
-  wf = valid-wf s v
-
-  pub label-small : r .kind ≡ 1 → r .label < 64
-  label-small k = rw (ap (λ x. x .label) here) at (small wf i (ap (λ x. isAmbient x) here ∙ ambient-is r k))
-
-  module _ (S : ℕ → Bool) where
-    pub hidden-here : isSuspect S r ≡ true → hidden (records s) S i ≡ true
-    hidden-here h = hidden-suspect wf S i (ap (isSuspect S) here ∙ h)
-
-    pub hidden-above : i ≢ 0 → isSuspect S r ≡ false → hidden (records s) S (r .parent) ≡ hidden (records s) S i
-    hidden-above z h = ap (λ x. hidden (records s) S (x .parent)) (sym here) ∙ sym (hidden-up wf S i z (ap (isSuspect S) here ∙ h))
-
-  pub near-above : {left : ℕ} → i ≢ 0 → Near s left i → Near s (left - 1) (r .parent)
-  near-above z w =
-      let u = w .near in
-      let a = above (u .2) z in
-      let l : parentOf (records s) i ≤ count s = omega (arith, parent-in wf i, length-records s) in
-      record {
-        inside = rw (ap (λ x. x .parent) here) at l;
-        near = (a .0, omega (arith, u .1, a .1), rw (ap (λ x. x .parent) here) at (a .2));
-      }
-
-pub near-left : {s : List ℕ} {left i : ℕ} → Near s left i → i ≢ 0 → left ≢ 0
-near-left w z e = let a = above (w .near .2) z in omega (arith, w .near .1, a .1)
-
--- as many climbs as there are records are enough
-pub near-all : (s : List ℕ) → validity s ≡ pass → (i : ℕ) → i ≤ count s → Near s (count s) i
-near-all s v i l =
-    let w = valid-wf s v in
-    let d = w .reach i in
-    record { inside = l; near = (d .0, omega (arith, depth-le (length (records s)) (parent-in w) (omega (arith, length-records s)) (d .1), length-records s), d .1) }
+  pub hidden-above : i ≢ 0 → isSuspect S r ≡ false → hidden (records s) S (r .parent) ≡ hidden (records s) S i
+  hidden-above z h = ap (λ x. hidden (records s) S (x .parent)) (sym (here s v i r e)) ∙ sym (hidden-up (valid-wf s v) S i z (ap (isSuspect S) (here s v i r e) ∙ h))
 
 -- one mark more
 module _ {s table marks : List ℕ} (w : Marked s table marks) (i v : ℕ) (l : i < length marks) (z : 1 ≤ i) where

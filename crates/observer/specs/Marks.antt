@@ -1,12 +1,11 @@
 -- What the inner contracts cite: climbs that stop at records already decided.
-use Prim.Native.Nat.{_<_, _≤_, ℕ}
+use Prim.Native.Nat.{_<_, ℕ}
 use lib.Dec.{eqb}
 use lib.ListN.{getD, length}
 use mathlib.Core.List.{List}
 use mathlib.Core.Path.{_≡_}
 use Rattle.model.specs.Climbing.{hidden}
-use Rattle.model.specs.Laws.Forest.{Depth}
-use Rattle.model.specs.Records.{count, parentOf, records}
+use Rattle.model.specs.Records.{count, records}
 use Rattle.model.specs.Refusals.{pass}
 use Rattle.model.specs.Tables.{suspects}
 use Rattle.model.specs.Validity.{validity}
@@ -22,8 +21,3 @@ pub record Markable (s table marks : List ℕ) : Type 0 where
   pub table-long : length table ≡ 1544
   pub room : count s < length marks
   pub marked : Marked s table marks
-
--- number i is within the count, and left climbs from it are enough
-pub record Near (s : List ℕ) (left i : ℕ) : Type 0 where
-  pub inside : i ≤ count s
-  pub near : (d : ℕ) × (d ≤ left) × Depth (parentOf (records s)) i d

@@ -6,6 +6,7 @@ use model::Validated;
 ghost use mathlib.Core.Path.{_≡_};
 ghost use Prim.Native.Nat.{_<_, _≤_};
 ghost use lib.ListN.{length};
+ghost use Rattle.itinerary.specs.Known.{Near};
 ghost use Rattle.model.specs.Calls.{sheetAfter, sheetAnswer};
 ghost use Rattle.model.specs.Climbing.{hidden, isSuspect};
 ghost use Rattle.model.specs.Numbers.{performedAs};
@@ -14,7 +15,7 @@ ghost use Rattle.model.specs.Records.{records};
 ghost use Rattle.model.specs.Refusals.{pass};
 ghost use Rattle.model.specs.Tables.{suspects};
 ghost use Rattle.model.specs.Validity.{validity};
-ghost use Rattle.observer.specs.Marks.{Markable, Marked, Near};
+ghost use Rattle.observer.specs.Marks.{Markable, Marked};
 
 // Whether a record is an ambient whose label is suspect; inner.
 fn suspect(table: &[u8], r: Rec) -> bool

@@ -3,42 +3,25 @@ use Prim.Native.Nat.{_<_, ℕ}
 use borrow.Author.Needs.{needs}
 use borrow.Fn.Kinds.{In}
 use borrow.Fn.PlainCycle.{Measures, and, falls, is}
-use mathlib.Core.Path.{_∙_, sym}
+use lib.ListN.{length-set}
+use mathlib.Core.Path.{_∙_}
 use native.Mathlib.Omega.{arith}
-use Rattle.itinerary.specs.Laws.{ambient-is, ambient-not, climb-lost, climb-on, climb-top, two-fewer}
-use Rattle.model.specs.Climbing.{nesting}
-use Rattle.model.specs.Laws.Containers.{labelled-amb, labelled-other}
-use Rattle.itinerary.proofs.+nearest.{statement}
-use Rattle.itinerary.proofs.+nearest.Lts-nearest as nearest-lts
-use Rattle.itinerary.proofs.+nearest.Tie.{close}
-use Rattle.itinerary.proofs.nearest.Kinds as nearest-kinds
+use Rattle.itinerary.specs.Nearest.{label-more, label-positive, near-above, near-left, nearest-above, nearest-here, parent-near}
 use Rattle.itinerary.proofs.nearest.Reads as nearest
+use Rattle.itinerary.proofs.nearest.Kinds as nearest-kinds
+use Rattle.itinerary.proofs.+nearest.Lts-nearest as nearest-lts
 use Rattle.itinerary.proofs.record_at.Reads as record-at-reads
+use Rattle.itinerary.proofs.+nearest.{statement}
+use Rattle.itinerary.proofs.+nearest.Tie.{close}
 
-abbrev μ-nearest : Measures 1 nearest-kinds.ps ℕ
-μ-nearest κs a = a .1 .1 .0
+abbrev μ-nearest : Measures 2 nearest-kinds.ps ℕ
+μ-nearest κs a = a .1 .1 .1 .0
 
-abbrev nearest-at : ℕ → In 1 nearest-kinds.ps
-nearest-at t = and 1 nearest-kinds.ps (is 1 nearest-kinds.ps μ-nearest t) nearest.Pre
+abbrev nearest-at : ℕ → In 2 nearest-kinds.ps
+nearest-at t = and 2 nearest-kinds.ps (is 2 nearest-kinds.ps μ-nearest t) nearest.Pre
 
-abbrev nearest-below : ℕ → In 1 nearest-kinds.ps
-nearest-below t = and 1 nearest-kinds.ps (falls 1 nearest-kinds.ps _<_ μ-nearest t) nearest.Pre
-
-nearest-returns : (t : ℕ) → nearest-lts.Need-returns (
-  record-at-reads.Asked,
-  record-at-reads.Learnt,
-  nearest-below t,
-  nearest.Post,
-) (nearest-at t) nearest.Post
-nearest-returns t c = sym (climb-top nesting _ _ _ (c .if1 .taken))
-
-nearest-returns-2 : (t : ℕ) → nearest-lts.Need-returns-2 (
-  record-at-reads.Asked,
-  record-at-reads.Learnt,
-  nearest-below t,
-  nearest.Post,
-) (nearest-at t) nearest.Post
-nearest-returns-2 t c = sym (climb-lost nesting _ _ _ (c .before .if1 .left) (c .if2 .taken))
+abbrev nearest-below : ℕ → In 2 nearest-kinds.ps
+nearest-below t = and 2 nearest-kinds.ps (falls 2 nearest-kinds.ps _<_ μ-nearest t) nearest.Pre
 
 nearest-record-at-requires : (t : ℕ) → nearest-lts.Need-record-at-requires (
   record-at-reads.Asked,
@@ -48,45 +31,83 @@ nearest-record-at-requires : (t : ℕ) → nearest-lts.Need-record-at-requires (
 ) (nearest-at t) nearest.Post
 nearest-record-at-requires t c κs = search needs
 
+nearest-slice-write-labels : (t : ℕ) → nearest-lts.Need-slice-write-labels (
+  record-at-reads.Asked,
+  record-at-reads.Learnt,
+  nearest-below t,
+  nearest.Post,
+) (nearest-at t) nearest.Post
+nearest-slice-write-labels t c = omega (arith, c .before .before .before .before .before .pre .1 .0 .room, c .before .before .before .before .before .pre .1 .1 .inside)
+
+nearest-same-length : (t : ℕ) → nearest-lts.Need-same-length (
+  record-at-reads.Asked,
+  record-at-reads.Learnt,
+  nearest-below t,
+  nearest.Post,
+) (nearest-at t) nearest.Post
+nearest-same-length t c = simp length-set
+
+nearest-returns : (t : ℕ) → nearest-lts.Need-returns (
+  record-at-reads.Asked,
+  record-at-reads.Learnt,
+  nearest-below t,
+  nearest.Post,
+) (nearest-at t) nearest.Post
+nearest-returns t c =
+    let w = c .before .before .before .before .before .pre .1 in
+    let h = nearest-here _ (c .before .before .before .before .before .pre .1 .0 .valid) _ _ (c .before .before .record-at .ensures) (c .if1 .taken) in
+    (h, label-more (w .0 .valid) (w .0 .decided) (λ j n. n) _ _ (omega (arith, c .before .before .before .before .before .pre .1 .0 .room, c .before .before .before .before .before .pre .1 .1 .inside)) (w .2) h)
+
+nearest-cast-above : (t : ℕ) → nearest-lts.Need-cast-above (
+  record-at-reads.Asked,
+  record-at-reads.Learnt,
+  nearest-below t,
+  nearest.Post,
+) (nearest-at t) nearest.Post
+nearest-cast-above t c = search needs
+
+nearest-slice-read-above : (t : ℕ) → nearest-lts.Need-slice-read-above (
+  record-at-reads.Asked,
+  record-at-reads.Learnt,
+  nearest-below t,
+  nearest.Post,
+) (nearest-at t) nearest.Post
+nearest-slice-read-above t c = omega (arith, parent-near _ (c .before .before .before .before .before .before .before .pre .1 .0 .valid) _ _ (c .before .before .before .before .record-at .ensures), c .before .before .before .before .before .before .before .pre .1 .0 .room)
+
+nearest-slice-write-labels-2 : (t : ℕ) → nearest-lts.Need-slice-write-labels-2 (
+  record-at-reads.Asked,
+  record-at-reads.Learnt,
+  nearest-below t,
+  nearest.Post,
+) (nearest-at t) nearest.Post
+nearest-slice-write-labels-2 t c = omega (arith, c .before .before .before .before .before .before .before .before .pre .1 .0 .room, c .before .before .before .before .before .before .before .before .pre .1 .1 .inside)
+
+nearest-same-length-2 : (t : ℕ) → nearest-lts.Need-same-length-2 (
+  record-at-reads.Asked,
+  record-at-reads.Learnt,
+  nearest-below t,
+  nearest.Post,
+) (nearest-at t) nearest.Post
+nearest-same-length-2 t c = simp length-set
+
+nearest-returns-2 : (t : ℕ) → nearest-lts.Need-returns-2 (
+  record-at-reads.Asked,
+  record-at-reads.Learnt,
+  nearest-below t,
+  nearest.Post,
+) (nearest-at t) nearest.Post
+nearest-returns-2 t c =
+    let w = c .before .before .before .before .before .before .before .before .pre .1 in
+    let h = w .0 .decided .told _ (parent-near _ (c .before .before .before .before .before .before .before .before .pre .1 .0 .valid) _ _ (c .before .before .before .before .before .record-at .ensures)) (c .if2 .taken) ∙ nearest-above _ (c .before .before .before .before .before .before .before .before .pre .1 .0 .valid) _ _ (c .before .before .before .before .before .record-at .ensures) (λ q. omega (arith, q, c .before .before .before .before .before .before .before .before .pre .1 .2)) (c .before .before .before .if1 .left) in
+    (h, label-more (w .0 .valid) (w .0 .decided) (λ j n. n) _ _ (omega (arith, c .before .before .before .before .before .before .before .before .pre .1 .0 .room, c .before .before .before .before .before .before .before .before .pre .1 .1 .inside)) (w .2) h)
+
 nearest-returns-3 : (t : ℕ) → nearest-lts.Need-returns-3 (
   record-at-reads.Asked,
   record-at-reads.Learnt,
   nearest-below t,
   nearest.Post,
 ) (nearest-at t) nearest.Post
-nearest-returns-3 t c = sym (climb-on nesting _ _ _ (c .before .before .before .before .before .before .pre .1) (c .before .before .before .before .if1 .left) (c .before .before .before .if2 .left) _ (c .before .before .record-at .ensures) ∙ labelled-amb _ _ (ambient-is _ (c .if3 .taken)))
-
-nearest-returns-4 : (t : ℕ) → nearest-lts.Need-returns-4 (
-  record-at-reads.Asked,
-  record-at-reads.Learnt,
-  nearest-below t,
-  nearest.Post,
-) (nearest-at t) nearest.Post
-nearest-returns-4 t c = sym (climb-on nesting _ _ _ (c .before .before .before .before .before .before .before .before .pre .1) (c .before .before .before .before .before .before .if1 .left) (c .before .before .before .before .before .if2 .left) _ (c .before .before .before .before .record-at .ensures) ∙ labelled-other _ _ (ambient-not _ (c .before .before .if3 .left)) ∙ climb-top nesting _ _ _ (c .if4 .taken))
-
-nearest-returns-5 : (t : ℕ) → nearest-lts.Need-returns-5 (
-  record-at-reads.Asked,
-  record-at-reads.Learnt,
-  nearest-below t,
-  nearest.Post,
-) (nearest-at t) nearest.Post
-nearest-returns-5 t c = sym (climb-on nesting _ _ _ (c .before .before .before .before .before .before .before .before .before .pre .1) (c .before .before .before .before .before .before .before .if1 .left) (c .before .before .before .before .before .before .if2 .left) _ (c .before .before .before .before .before .record-at .ensures) ∙ labelled-other _ _ (ambient-not _ (c .before .before .before .if3 .left)) ∙ climb-lost nesting _ _ _ (c .before .if4 .left) (let e = c .if5 .taken in omega arith))
-
-nearest-record-at-requires-2 : (t : ℕ) → nearest-lts.Need-record-at-requires-2 (
-  record-at-reads.Asked,
-  record-at-reads.Learnt,
-  nearest-below t,
-  nearest.Post,
-) (nearest-at t) nearest.Post
-nearest-record-at-requires-2 t c κs = search needs
-
-nearest-returns-6 : (t : ℕ) → nearest-lts.Need-returns-6 (
-  record-at-reads.Asked,
-  record-at-reads.Learnt,
-  nearest-below t,
-  nearest.Post,
-) (nearest-at t) nearest.Post
-nearest-returns-6 t c = sym (climb-on nesting _ _ _ (c .before .before .before .before .before .before .before .before .before .before .before .before .pre .1) (c .before .before .before .before .before .before .before .before .before .before .if1 .left) (c .before .before .before .before .before .before .before .before .before .if2 .left) _ (c .before .before .before .before .before .before .before .before .record-at .ensures) ∙ labelled-other _ _ (ambient-not _ (c .before .before .before .before .before .before .if3 .left)) ∙ climb-on nesting _ _ _ (c .before .before .before .before .before .before .before .before .before .before .before .before .pre .1) (c .before .before .before .before .if4 .left) (let d = c .before .before .before .if5 .left in let z = c .before .before .before .before .before .before .before .before .before .if2 .left in omega arith) _ (c .before .before .record-at2 .ensures) ∙ labelled-amb _ _ (ambient-is _ (c .if6 .taken)))
+nearest-returns-3 t c = absurd (near-left (c .before .before .before .before .before .before .before .before .before .pre .1 .1) (λ q. omega (arith, q, c .before .before .before .before .before .before .before .before .before .pre .1 .2)) (c .if3 .taken))
 
 nearest-sub-nearest : (t : ℕ) → nearest-lts.Need-sub-nearest (
   record-at-reads.Asked,
@@ -94,7 +115,7 @@ nearest-sub-nearest : (t : ℕ) → nearest-lts.Need-sub-nearest (
   nearest-below t,
   nearest.Post,
 ) (nearest-at t) nearest.Post
-nearest-sub-nearest t c = let d = c .before .before .before .if5 .left in let z = c .before .before .before .before .before .before .before .before .before .if2 .left in omega arith
+nearest-sub-nearest t c = omega arith
 
 nearest-nearest-requires : (t : ℕ) → nearest-lts.Need-nearest-requires (
   record-at-reads.Asked,
@@ -102,15 +123,37 @@ nearest-nearest-requires : (t : ℕ) → nearest-lts.Need-nearest-requires (
   nearest-below t,
   nearest.Post,
 ) (nearest-at t) nearest.Post
-nearest-nearest-requires t c κs = (omega (arith, c .before .before .before .before .before .before .before .before .before .before .before .before .pre .0, c .before .before .before .if5 .left, c .before .before .before .before .before .before .before .before .before .if2 .left), c .before .before .before .before .before .before .before .before .before .before .before .before .pre .1)
+nearest-nearest-requires t c κs =
+    let w = c .before .before .before .before .before .before .before .before .before .before .pre in
+    (omega (arith, w .0), (w .1 .0, near-above _ (c .before .before .before .before .before .before .before .before .before .before .pre .1 .0 .valid) _ _ (c .before .before .before .before .before .before .before .record-at .ensures) (λ q. omega (arith, q, c .before .before .before .before .before .before .before .before .before .before .pre .1 .2)) (w .1 .1), label-positive _ (w .1 .0 .decided) (c .before .before .if2 .left)))
 
-nearest-returns-7 : (t : ℕ) → nearest-lts.Need-returns-7 (
+nearest-slice-write-labels-3 : (t : ℕ) → nearest-lts.Need-slice-write-labels-3 (
   record-at-reads.Asked,
   record-at-reads.Learnt,
   nearest-below t,
   nearest.Post,
 ) (nearest-at t) nearest.Post
-nearest-returns-7 t c = c .nearest .ensures ∙ sym (climb-on nesting _ _ _ (c .before .before .before .before .before .before .before .before .before .before .before .before .before .pre .1) (c .before .before .before .before .before .before .before .before .before .before .before .if1 .left) (c .before .before .before .before .before .before .before .before .before .before .if2 .left) _ (c .before .before .before .before .before .before .before .before .before .record-at .ensures) ∙ labelled-other _ _ (ambient-not _ (c .before .before .before .before .before .before .before .if3 .left)) ∙ climb-on nesting _ _ _ (c .before .before .before .before .before .before .before .before .before .before .before .before .before .pre .1) (c .before .before .before .before .before .if4 .left) (let d = c .before .before .before .before .if5 .left in let z = c .before .before .before .before .before .before .before .before .before .before .if2 .left in omega arith) _ (c .before .before .before .record-at2 .ensures) ∙ labelled-other _ _ (ambient-not _ (c .before .if6 .left)) ∙ two-fewer nesting _ _ _)
+nearest-slice-write-labels-3 t c = omega (arith, c .before .before .before .before .before .before .before .before .before .before .before .before .before .pre .1 .0 .room, c .before .before .before .before .before .before .before .before .before .before .before .before .before .pre .1 .1 .inside, c .before .before .nearest .kept .1 .0)
+
+nearest-same-length-3 : (t : ℕ) → nearest-lts.Need-same-length-3 (
+  record-at-reads.Asked,
+  record-at-reads.Learnt,
+  nearest-below t,
+  nearest.Post,
+) (nearest-at t) nearest.Post
+nearest-same-length-3 t c = simp length-set (c .before .before .nearest .kept .1 .0)
+
+nearest-returns-4 : (t : ℕ) → nearest-lts.Need-returns-4 (
+  record-at-reads.Asked,
+  record-at-reads.Learnt,
+  nearest-below t,
+  nearest.Post,
+) (nearest-at t) nearest.Post
+nearest-returns-4 t c =
+    let w = c .before .before .before .before .before .before .before .before .before .before .before .before .before .pre .1 in
+    let f = c .before .before .nearest .ensures in
+    let h = f .0 ∙ nearest-above _ (c .before .before .before .before .before .before .before .before .before .before .before .before .before .pre .1 .0 .valid) _ _ (c .before .before .before .before .before .before .before .before .before .before .record-at .ensures) (λ q. omega (arith, q, c .before .before .before .before .before .before .before .before .before .before .before .before .before .pre .1 .2)) (c .before .before .before .before .before .before .before .before .if1 .left) in
+    (h, label-more (w .0 .valid) (f .1 .decided) (f .1 .stays) _ _ (omega (arith, c .before .before .before .before .before .before .before .before .before .before .before .before .before .pre .1 .0 .room, c .before .before .before .before .before .before .before .before .before .before .before .before .before .pre .1 .1 .inside, c .before .before .nearest .kept .1 .0)) (w .2) h)
 
 pub +nearest-spec : {M : Type 1} → statement M
 +nearest-spec = close μ-nearest λ t. nearest-lts.spec (
@@ -121,14 +164,18 @@ pub +nearest-spec : {M : Type 1} → statement M
 )
     (nearest-at t)
     nearest.Post
-    (nearest-returns t)
-    (nearest-returns-2 t)
     (nearest-record-at-requires t)
+    (nearest-slice-write-labels t)
+    (nearest-same-length t)
+    (nearest-returns t)
+    (nearest-cast-above t)
+    (nearest-slice-read-above t)
+    (nearest-slice-write-labels-2 t)
+    (nearest-same-length-2 t)
+    (nearest-returns-2 t)
     (nearest-returns-3 t)
-    (nearest-returns-4 t)
-    (nearest-returns-5 t)
-    (nearest-record-at-requires-2 t)
-    (nearest-returns-6 t)
     (nearest-sub-nearest t)
     (nearest-nearest-requires t)
-    (nearest-returns-7 t)
+    (nearest-slice-write-labels-3 t)
+    (nearest-same-length-3 t)
+    (nearest-returns-4 t)

@@ -1,6 +1,6 @@
 -- `itinerary::container` meets its contract.
 use borrow.Author.Needs.{needs}
-use Rattle.itinerary.specs.Laws.{done-answer, refuse-answer, valid-whole, validate-pass, validate-refuse}
+use Rattle.itinerary.specs.Laws.{done-answer, refuse-answer, validate-pass, validate-refuse}
 use Rattle.model.specs.Calls.{containerAnswer}
 use Rattle.model.specs.Numbers.{containedAs}
 use Rattle.itinerary.proofs.container.Statement.{statement}
@@ -16,7 +16,7 @@ enum-told : tie.Need-enum-told
 enum-told c = search needs
 
 container-of-requires : tie.Need-container-of-requires
-container-of-requires c κs = valid-whole _ (validate-pass _ _ (c .before .before .validate .ensures) (c .enum-told .given .1))
+container-of-requires c κs = validate-pass _ _ (c .before .before .validate .ensures) (c .enum-told .given .1)
 
 returns : tie.Need-returns
 unfolding containedAs containerAnswer

@@ -1,19 +1,22 @@
 -- `itinerary::container_of` meets its contract.
-use Rattle.itinerary.specs.Laws.{view-above}
-use Rattle.model.specs.Climbing.{nesting}
 use borrow.Author.Needs.{needs}
-use mathlib.Core.Path.{_∙_}
+use Rattle.itinerary.specs.Nearest.{labels-root}
 use Rattle.itinerary.proofs.container_of.Statement.{statement}
 use Rattle.itinerary.proofs.container_of.Tie as tie
 
-record-at-requires : tie.Need-record-at-requires
-record-at-requires c κs = search needs
+array-write-labels : tie.Need-array-write-labels
+array-write-labels c = search needs
 
-container-below-requires : tie.Need-container-below-requires
-container-below-requires c κs = search needs
+slice-aggregate-container-by : tie.Need-slice-aggregate-container-by
+slice-aggregate-container-by c = search needs
+
+container-by-requires : tie.Need-container-by-requires
+container-by-requires c κs = labels-root (c .before .before .pre)
 
 returns : tie.Need-returns
-returns c = c .container-below .ensures ∙ view-above nesting _ _ (c .before .before .before .pre) _ (c .before .record-at .ensures)
+returns c = search needs
 
 pub container-of-spec : {M : Type 1} → statement M
-container-of-spec = tie.close (tie.spec record-at-requires container-below-requires returns)
+container-of-spec =
+    tie.close
+    (tie.spec array-write-labels slice-aggregate-container-by container-by-requires returns)

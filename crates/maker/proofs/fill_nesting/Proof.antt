@@ -1,125 +1,38 @@
 -- `maker::fill_nesting` meets its contract.
-use Prim.Native.Nat.{_*_, _+_, _-_, _/_, _<_, _≤_, ℕ}
-use lib.ListN.{length}
-use mathlib.Core.List.{List}
-use mathlib.Core.Logic.{⊎-elim}
-use mathlib.Core.Path.{_∙_, _≡_, ap, refl, subst, sym}
-use native.Mathlib.Omega.{arith}
-use Rattle.itinerary.specs.Laws.{valid-few, valid-whole}
-use Rattle.maker.specs.Facts.{Filled}
-use Rattle.maker.specs.Laws.{filled-no, filled-none, filled-yes}
-use Rattle.model.specs.Records.{count, records}
-use Rattle.model.specs.Tables.{bits}
-use Rattle.partners.specs.Facts.{nestCell, standing}
-use Rattle.partners.specs.Standing.{stands, stands-not}
+use borrow.Author.Needs.{needs}
+use Rattle.itinerary.specs.Nearest.{labels-root}
 use Rattle.maker.proofs.fill_nesting.Statement.{statement}
 use Rattle.maker.proofs.fill_nesting.Tie as tie
 
-abbrev Inv-loop : tie.InvT-loop
-Inv-loop table₀ it n i₀ table i = (length table ≡ length table₀) × (i ≤ length it / 8) × Filled (standing (records it)) (nestCell (records it)) i (bits table₀) (bits table)
+array-write-labels : tie.Need-array-write-labels
+array-write-labels c = search needs
 
-abbrev μ-loop : tie.MeasureT-loop
-μ-loop table₀ it n i₀ table i = length it / 8 - i
+slice-aggregate-nearest-labels : tie.Need-slice-aggregate-nearest-labels
+slice-aggregate-nearest-labels c = search needs
 
-cast-n : tie.Need-cast-n Inv-loop μ-loop
-cast-n c = let s = c .before .before in let h = valid-few (s .args .it .now) (s .pre .1) in omega arith
+nearest-labels-requires : tie.Need-nearest-labels-requires
+nearest-labels-requires c κs = labels-root (c .before .before .before .pre .1)
 
-loop-holds : tie.Need-loop-holds Inv-loop μ-loop
-loop-holds c = let s = c .before .before in (refl, omega arith, filled-none (standing (records (s .args .it .now))) (nestCell (records (s .args .it .now))))
+slice-aggregate-nest : tie.Need-slice-aggregate-nest
+slice-aggregate-nest c = search needs
 
-add-record-at : tie.Need-add-record-at Inv-loop μ-loop
-add-record-at c = let s = c .before .before .before .before in let h = valid-few (s .args .it .now) (s .pre .1) in omega arith
+nest-requires : tie.Need-nest-requires
+nest-requires c κs = let s = c .before .before .before .before .before .before .before in (s .pre .0, (s .pre .1, c .before .before .before .nearest-labels .ensures))
 
-record-at-requires : tie.Need-record-at-requires Inv-loop μ-loop
-record-at-requires c κs = tt
+same-length : tie.Need-same-length
+same-length c = search needs
 
-container-below-requires : tie.Need-container-below-requires Inv-loop μ-loop
-container-below-requires c κs = valid-whole (c .before .before .before .before .before .before .before .args .it .now) (c .before .before .before .before .before .before .before .pre .1)
-
--- a record of a valid itinerary has its bit within the table
-known : (c : tie.After-container-below Inv-loop μ-loop) →
-    (c .before .before .before .record-at .result .label < 128) × (c .container-below .result < 64) × (length (c .before .before .before .before .before .loop .table) ≡ 1544)
-unfolding count
-known c =
-    let s = c .before .before .before .before .before .before .before .before in
-    let l = c .before .before .before .before .before .loop in
-    let r = c .before .before .before .record-at in
-    let k = stands (s .args .it .now) (s .pre .1) (l .i) (omega arith) (r .result) (r .ensures) (c .container-below .result) (c .container-below .ensures) (c .before .if1 .taken) in
-    (k .label, k .above, l .inv .0 ∙ s .pre .0)
-
-cast-set-bit : tie.Need-cast-set-bit Inv-loop μ-loop
-cast-set-bit c = let k = known (c .before) in omega arith
-
-mul-set-bit : tie.Need-mul-set-bit Inv-loop μ-loop
-mul-set-bit c = let k = known (c .before) in omega arith
-
-cast-set-bit-2 : tie.Need-cast-set-bit-2 Inv-loop μ-loop
-cast-set-bit-2 c = let k = known (c .before .before) in omega arith
-
-add-set-bit : tie.Need-add-set-bit Inv-loop μ-loop
-add-set-bit c = let k = known (c .before .before) in omega arith
-
-set-bit-requires : tie.Need-set-bit-requires Inv-loop μ-loop
-set-bit-requires c κs = let k = known (c .before .before) in omega arith
-
-add-i : tie.Need-add-i Inv-loop μ-loop
-add-i c = let s = c .before .before .before .before .before .before .before in let h = valid-few (s .args .it .now) (s .pre .1) in omega arith
-
-loop-less : tie.Need-loop-less Inv-loop μ-loop
-loop-less c = omega arith
-
-loop-again : tie.Need-loop-again Inv-loop μ-loop
-unfolding count
-loop-again c =
-    let s = c .before .before .before .before .before .before .before in
-    let it = s .args .it .now in
-    let l = c .before .before .before .before .loop in
-    let r = c .before .before .record-at in
-    let h = valid-few it (s .pre .1) in
-    let e : l .i + 1 ≤ count (s .args .it .now) = omega arith in
-    let m = l .inv .0 ∙ s .pre .0 in
-    ⊎-elim
-    (λ v. let k = stands it (s .pre .1) (l .i) e (r .result) (r .ensures) (v .1 .result) (v .1 .ensures) (v .0 .taken) in let x = k .label in let y = k .above in (
-      ap length (v .7) ∙ v .4 .kept .0 ∙ l .inv .0,
-      omega arith,
-      filled-yes (standing (records it)) (nestCell (records it)) (l .i) (l .table) _ (128 * v .1 .result + r .result .label) (k .test) (k .cell) (omega arith) (v .7 ∙ v .4 .ensures) (l .inv .2),
-    ))
-    (λ v. (
-      ap length (v .1) ∙ l .inv .0,
-      omega arith,
-      subst (λ (y : List ℕ). Filled (standing (records it)) (nestCell (records it)) (l .i + 1) (bits (s .args .table .now)) (bits y)) (sym (v .1))
-          (filled-no (standing (records it)) (nestCell (records it)) (l .i) (stands-not it (s .pre .1) (l .i) e (r .result) (r .ensures) (v .0 .left)) (l .inv .2)),
-    ))
-    (c .if1 .came)
-
-same-length : tie.Need-same-length Inv-loop μ-loop
-same-length c = c .before .loop .inv .0
-
-returns : tie.Need-returns Inv-loop μ-loop
-unfolding count
-returns c =
-    let s = c .before .before .before .before in
-    let e : c .before .loop .i ≡ count (s .args .it .now) = omega arith in
-    subst (λ (k : ℕ). Filled (standing (records (s .args .it .now))) (nestCell (records (s .args .it .now))) k (bits (s .args .table .now)) (bits (c .before .loop .table))) e (c .before .loop .inv .2)
+returns : tie.Need-returns
+returns c = search needs
 
 pub fill-nesting-spec : {M : Type 1} → statement M
 fill-nesting-spec =
     tie.close
     (tie.spec
-    Inv-loop
-    μ-loop
-    cast-n
-    loop-holds
-    add-record-at
-    record-at-requires
-    container-below-requires
-    cast-set-bit
-    mul-set-bit
-    cast-set-bit-2
-    add-set-bit
-    set-bit-requires
-    add-i
-    loop-less
-    loop-again
+    array-write-labels
+    slice-aggregate-nearest-labels
+    nearest-labels-requires
+    slice-aggregate-nest
+    nest-requires
     same-length
     returns)

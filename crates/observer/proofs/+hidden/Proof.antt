@@ -6,7 +6,8 @@ use borrow.Fn.PlainCycle.{Measures, and, falls, is}
 use lib.ListN.{length-set}
 use mathlib.Core.Path.{_∙_, sym}
 use native.Mathlib.Omega.{arith}
-use Rattle.observer.specs.Laws.{hidden-above, hidden-here, label-small, mark-more, near-above, near-left, positive}
+use Rattle.itinerary.specs.Nearest.{label-small, near-above, near-left}
+use Rattle.observer.specs.Laws.{hidden-above, hidden-here, mark-more, positive}
 use Rattle.observer.proofs.hidden.Reads as hidden
 use Rattle.observer.proofs.hidden.Kinds as hidden-kinds
 use Rattle.observer.proofs.+hidden.Lts-hidden as hidden-lts

@@ -1,0 +1,131 @@
+-- Climbs in a valid itinerary that stop at what is already decided.
+use Prim.Native.Nat.{_+_, _-_, _<_, _≤_, suc, zero, ℕ}
+use lib.ListN.{getD, length, length-replicate, length-set, replicate, set}
+use lib.Seq.{getD-set-other, getD-set-same}
+use mathlib.Core.Bool.{true}
+use mathlib.Core.List.{List}
+use mathlib.Core.Logic.{_≢_}
+use mathlib.Core.Path.{_∙_, _≡_, ap, refl, sym}
+use native.Mathlib.Decide.{decLt, ℕ-discrete}
+use native.Mathlib.Nat.{eq-or-lt-of-le}
+use native.Mathlib.Omega.{arith}
+use Rattle.model.specs.Climbing.{container, nearest, nesting}
+use Rattle.model.specs.Laws.Bytes.{at-whole, length-records, valid-wf}
+use Rattle.model.specs.Laws.Containers.{nearest-amb, nearest-small, nearest-up}
+use Rattle.model.specs.Laws.Forest.{above, depth-le}
+use Rattle.model.specs.Laws.Views.{view-top}
+use Rattle.model.specs.Laws.WellFormed.{WellFormed, parent-in, small}
+use Rattle.model.specs.Records.{at, count, decode, isAmbient, parentOf, records}
+use Rattle.model.specs.Refusals.{pass}
+use Rattle.model.specs.Validity.{validity}
+use Rattle.model.specs.declared.Rec.{Rec}
+use Rattle.itinerary.specs.Known.{Labelable, Labelled, Labels, Near, Nearests}
+use Rattle.itinerary.specs.Laws.{ambient-is, ambient-not, valid-few, valid-whole}
+
+-- r is record i of a valid itinerary
+module _ (s : List ℕ) (v : validity s ≡ pass) (i : ℕ) (r : Rec) (e : r ≡ decode s i) where
+  pub here : at (records s) i ≡ r
+  here = at-whole s (valid-whole s v) i ∙ sym e
+
+  wf : WellFormed (records s)
+  wf = valid-wf s v
+
+  pub label-small : r .kind ≡ 1 → r .label < 64
+  label-small k = rw (ap (λ x. x .label) here) at (small wf i (ap (λ x. isAmbient x) here ∙ ambient-is r k))
+
+  pub parent-near : r .parent ≤ count s
+  parent-near = let l : parentOf (records s) i ≤ count s = omega (arith, parent-in wf i, length-records s) in rw (ap (λ x. x .parent) here) at l
+
+  pub near-above : {left : ℕ} → i ≢ 0 → Near s left i → Near s (left - 1) (r .parent)
+  near-above z w =
+      let u = w .near in
+      let a = above (u .2) z in
+      record { inside = parent-near; near = (a .0, omega (arith, u .1, a .1), rw (ap (λ x. x .parent) here) at (a .2)) }
+
+  pub nearest-here : r .kind ≡ 1 → r .label ≡ nearest (records s) i
+  nearest-here k = ap (λ x. x .label) (sym here) ∙ sym (nearest-amb wf i (ap (λ x. isAmbient x) here ∙ ambient-is r k))
+
+  pub nearest-above : i ≢ 0 → r .kind ≢ 1 → nearest (records s) (r .parent) ≡ nearest (records s) i
+  nearest-above z k = ap (λ x. nearest (records s) (x .parent)) (sym here) ∙ sym (nearest-up wf i z (ap (λ x. isAmbient x) here ∙ ambient-not r k))
+
+  -- the container of record i is what its parent shows
+  pub container-read : nearest (records s) (r .parent) ≡ container (records s) i
+  container-read = ap (λ x. nearest (records s) (x .parent)) (sym here)
+
+  pub container-root : r .parent ≡ 0 → 0 ≡ container (records s) i
+  container-root z = sym (ap (nearest (records s)) z ∙ view-top nesting wf) ∙ container-read
+
+pub near-left : {s : List ℕ} {left i : ℕ} → Near s left i → i ≢ 0 → left ≢ 0
+near-left w z e = let a = above (w .near .2) z in omega (arith, w .near .1, a .1)
+
+-- as many climbs as there are records are enough
+pub near-all : (s : List ℕ) → validity s ≡ pass → (i : ℕ) → i ≤ count s → Near s (count s) i
+near-all s v i l =
+    let w = valid-wf s v in
+    let d = w .reach i in
+    record { inside = l; near = (d .0, omega (arith, depth-le (length (records s)) (parent-in w) (omega (arith, length-records s)) (d .1), length-records s), d .1) }
+
+-- one label more
+pub label-more : {s labels labels′ : List ℕ} → validity s ≡ pass → Labels s labels′ → ((j : ℕ) → getD labels j 0 < 64 → getD labels′ j 0 < 64) →
+    (i k : ℕ) → i < length labels′ → 1 ≤ i → k ≡ nearest (records s) i → Labelled s labels i (set labels′ i k)
+label-more {s} {labels} {labels′} v w stays i k l z e = record {
+  decided = record { root = getD-set-other labels′ i 0 k 0 (λ q. omega (arith, q)) ∙ w .root; told = λ j m n. told j m n (ℕ-discrete j i) };
+  stays = λ j n. keeps j n (ℕ-discrete j i);
+  here = below;
+}
+  where
+    now-here : getD (set labels′ i k) i 0 ≡ k
+    now-here = getD-set-same labels′ i k 0 l
+
+    below : getD (set labels′ i k) i 0 < 64
+    below = omega (arith, now-here, e, nearest-small (valid-wf s v) i)
+
+    told : (j : ℕ) → j ≤ count s → getD (set labels′ i k) j 0 < 64 → Dec (j ≡ i) → getD (set labels′ i k) j 0 ≡ nearest (records s) j
+    told j m n (yes q) = rw q (now-here ∙ e)
+    told j m n (no q) = let o = getD-set-other labels′ i j k 0 q in o ∙ w .told j m (omega (arith, n, o))
+
+    keeps : (j : ℕ) → getD labels j 0 < 64 → Dec (j ≡ i) → getD (set labels′ i k) j 0 < 64
+    keeps j n (yes q) = rw q below
+    keeps j n (no q) = omega (arith, getD-set-other labels′ i j k 0 q, stays j n)
+
+-- what is not decided is a record
+pub label-positive : {s labels : List ℕ} (i : ℕ) → Labels s labels → 64 ≤ getD labels i 0 → 1 ≤ i
+label-positive zero w n = absurd (omega (arith, w .root))
+label-positive (suc i) w n = omega arith
+
+-- with other labels
+pub labelable : {s labels labels′ : List ℕ} → Labelable s labels → length labels′ ≡ length labels → Labels s labels′ → Labelable s labels′
+labelable w e m = record { valid = w .valid; room = rw e (w .room); decided = m }
+
+undecided : (k x j : ℕ) → j < k → getD (replicate k x) j 0 ≡ x
+undecided zero x j l = absurd (omega arith)
+undecided (suc k) x zero l = refl
+undecided (suc k) x (suc j) l = undecided k x j (omega arith)
+
+-- the environment alone is decided
+pub labels-root : {s : List ℕ} → validity s ≡ pass → Labelable s (set (replicate 1025 255) 0 0)
+unfolding count
+labels-root {s} v = record {
+  valid = v;
+  room = simp length-set (rw length-replicate (omega (arith, valid-few s v)));
+  decided = record { root = refl; told = λ j l n. go j l n (ℕ-discrete j 0) };
+}
+  where
+    go : (j : ℕ) → j ≤ count s → getD (set (replicate 1025 255) 0 0) j 0 < 64 → Dec (j ≡ 0) → getD (set (replicate 1025 255) 0 0) j 0 ≡ nearest (records s) j
+    go j l n (yes q) = rw q (sym (view-top nesting (valid-wf s v)))
+    go j l n (no q) = let u : List ℕ = replicate 1025 255 in absurd (omega (arith, n, getD-set-other u 0 j 0 0 q, undecided 1025 255 j (omega (arith, l, valid-few s v))))
+
+-- the environment is decided; one number more is; all are
+pub decided-root : {s labels : List ℕ} → Labels s labels → (j : ℕ) → j ≤ 0 → getD labels j 0 < 64
+decided-root w zero l = omega (arith, w .root)
+decided-root w (suc j) l = absurd (omega arith)
+
+pub decided-next : {s labels labels′ : List ℕ} (i : ℕ) → ((j : ℕ) → j ≤ i → getD labels j 0 < 64) → Labelled s labels (i + 1) labels′ → (j : ℕ) → j ≤ i + 1 → getD labels′ j 0 < 64
+decided-next {labels′ = labels′} i f w j l = go (ℕ-discrete j (i + 1))
+  where
+    go : Dec (j ≡ i + 1) → getD labels′ j 0 < 64
+    go (yes q) = rw q (w .here)
+    go (no q) = w .stays j (f j (omega arith))
+
+pub decided-all : {s labels : List ℕ} (n : ℕ) → Labelable s labels → ((j : ℕ) → j ≤ n → getD labels j 0 < 64) → count s ≤ n → Nearests s labels
+decided-all n w f l = record { room = w .room; is = λ j m. w .decided .told j m (f j (omega arith)) }
