@@ -16,6 +16,7 @@ use Rattle.model.specs.Climbing.{View, reaches, reaching, standing, view, viewF
 use Rattle.model.specs.Laws.Bytes.{rec-path, at-whole, length-records, passed, size-le, size-whole, sound-record}
 use Rattle.model.specs.Laws.Checks.{answer-done, bool-iff, each-pass, need-make}
 use Rattle.model.specs.Laws.Containers.{ambient-and, not-ambient-and}
+use Rattle.model.specs.Laws.Finite.{replicated}
 use Rattle.model.specs.Laws.Forest.{Depth, above, depth-le, under-of}
 use Rattle.model.specs.Laws.Updates.{at-over, at-root}
 use Rattle.model.specs.Laws.Views.{depth-reaches, from-lost, from-on, from-top, reaches-depth}
@@ -393,11 +394,6 @@ climb-refuse its i e t = need-refuse 6 i (sym e ∙ t)
 abbrev pub zeros : ℕ → List ℕ
 zeros k = replicate k 0
 
-pub getD-zero : (k j : ℕ) → getD (zeros k) j 0 ≡ 0
-getD-zero zero j = refl
-getD-zero (suc k) zero = refl
-getD-zero (suc k) (suc j) = getD-zero k j
-
 -- the environment alone has a mark
 pub marked-root : {s : List ℕ} → Parented s → Climbable s (set (zeros 1025) 0 1)
 unfolding count
@@ -409,7 +405,7 @@ marked-root {s} w = record {
   where
     go : (j : ℕ) → getD (set (zeros 1025) 0 1) j 0 ≡ 1 → Dec (j ≡ 0) → reaches (records s) j ≡ true
     go j e (yes q) = reach-root s j q
-    go j e (no q) = absurd (omega (arith, e, getD-set-other (zeros 1025) 0 j 1 0 q, getD-zero 1025 j))
+    go j e (no q) = absurd (omega (arith, e, getD-set-other (zeros 1025) 0 j 1 0 q, replicated {A = ℕ} 0 1025 j))
 
 pub parented : (s : List ℕ) → sizeRight s ≡ true → eachOf (recordCheck s) 1 (count s) ≡ pass → Parented s
 parented s e h = record { whole = size-whole s e; few = size-le s e; parents = parents-in s (size-whole s e) h }

@@ -1,6 +1,6 @@
 -- Climbs in a valid itinerary that stop at what is already decided.
 use Prim.Native.Nat.{_+_, _-_, _<_, _≤_, suc, zero, ℕ}
-use lib.ListN.{getD, length, length-replicate, length-set, replicate, set}
+use lib.ListN.{getD, getD-replicate, length, length-replicate, length-set, replicate, set}
 use lib.Seq.{getD-set-other, getD-set-same}
 use mathlib.Core.Bool.{true}
 use mathlib.Core.List.{List}
@@ -97,11 +97,6 @@ label-positive (suc i) w n = omega arith
 pub labelable : {s labels labels′ : List ℕ} → Labelable s labels → length labels′ ≡ length labels → Labels s labels′ → Labelable s labels′
 labelable w e m = record { valid = w .valid; room = rw e (w .room); decided = m }
 
-undecided : (k x j : ℕ) → j < k → getD (replicate k x) j 0 ≡ x
-undecided zero x j l = absurd (omega arith)
-undecided (suc k) x zero l = refl
-undecided (suc k) x (suc j) l = undecided k x j (omega arith)
-
 -- the environment alone is decided
 pub labels-root : {s : List ℕ} → validity s ≡ pass → Labelable s (set (replicate 1025 255) 0 0)
 unfolding count
@@ -113,7 +108,7 @@ labels-root {s} v = record {
   where
     go : (j : ℕ) → j ≤ count s → getD (set (replicate 1025 255) 0 0) j 0 < 64 → Dec (j ≡ 0) → getD (set (replicate 1025 255) 0 0) j 0 ≡ nearest (records s) j
     go j l n (yes q) = rw q (sym (view-top nesting (valid-wf s v)))
-    go j l n (no q) = let u : List ℕ = replicate 1025 255 in absurd (omega (arith, n, getD-set-other u 0 j 0 0 q, undecided 1025 255 j (omega (arith, l, valid-few s v))))
+    go j l n (no q) = let u : List ℕ = replicate 1025 255 in absurd (omega (arith, n, getD-set-other u 0 j 0 0 q, getD-replicate {A = ℕ} 1025 j 255 0 (omega (arith, l, valid-few s v))))
 
 -- the environment is decided; one number more is; all are
 pub decided-root : {s labels : List ℕ} → Labels s labels → (j : ℕ) → j ≤ 0 → getD labels j 0 < 64

@@ -10,13 +10,14 @@ use mathlib.Core.Logic.{_≢_}
 use mathlib.Core.Path.{_∙_, _≡_, ap, ap₂, refl, sym}
 use native.Mathlib.Decide.{ℕ-discrete}
 use native.Mathlib.Omega.{arith}
-use Rattle.itinerary.specs.Laws.{ambient-is, content-kept, content-new, done-answer, getD-zero, need-refuse, refuse-answer, then-next, then-refuse, valid-few, zeros}
+use Rattle.itinerary.specs.Laws.{ambient-is, content-kept, content-new, done-answer, need-refuse, refuse-answer, then-next, then-refuse, valid-few, zeros}
 use Rattle.itinerary.specs.Nearest.{here}
 use Rattle.model.specs.Calls.{sheetAfter, sheetAnswer, showing}
 use Rattle.model.specs.Climbing.{hidden, isSuspect}
 use Rattle.model.specs.Laws.Bytes.{valid-wf}
 use Rattle.model.specs.Laws.Checks.{need-make}
 use Rattle.model.specs.Laws.Containers.{hidden-root, hidden-suspect, hidden-up}
+use Rattle.model.specs.Laws.Finite.{replicated}
 use Rattle.model.specs.Numbers.{refusal}
 use Rattle.model.specs.Observer.{onSheet, sheetOf}
 use Rattle.model.specs.Records.{count, decode, gone, records}
@@ -63,7 +64,7 @@ marked-root {s} {table} v t = record {
   where
     go : (j : ℕ) → (getD (set (zeros 1025) 0 1) j 0 ≡ 0 → ⊥) → Dec (j ≡ 0) → hidden (records s) (suspects table) j ≡ eqb (getD (set (zeros 1025) 0 1) j 0) 2
     go j n (yes q) = rw q (hidden-root (valid-wf s v) _)
-    go j n (no q) = absurd (n (getD-set-other (zeros 1025) 0 j 1 0 q ∙ getD-zero 1025 j))
+    go j n (no q) = absurd (n (getD-set-other (zeros 1025) 0 j 1 0 q ∙ replicated 0 1025 j))
 
 -- what has no mark is a record
 pub positive : {s table marks : List ℕ} (i : ℕ) → Marked s table marks → getD marks i 0 ≡ 0 → 1 ≤ i

@@ -12,7 +12,7 @@ use native.Mathlib.Nat.{le-of-suc-le-suc, not-suc-le-zero}
 use native.Mathlib.Omega.{arith}
 use Rattle.model.specs.Finite.{lowest}
 use Rattle.model.specs.Laws.Checks.{and-make}
-use Rattle.model.specs.Laws.Finite.{lowest-make, lowest-none, lowest-nothing, lowest-some}
+use Rattle.model.specs.Laws.Finite.{lowest-make, lowest-none, lowest-nothing, lowest-some, replicated}
 use Rattle.model.specs.Laws.Reach.{reached-below, reached-inside, reached-next, reached-start, trues, trues-le}
 use Rattle.model.specs.Laws.WellFormed.{and-left, and-right}
 use Rattle.model.specs.Tables.{isBoundary, isHigh, parts, placeI}
@@ -22,11 +22,6 @@ use Rattle.reach.specs.Reach.{Origin, Row, Sweep, foundAs}
 use Rattle.reach.specs.declared.Found.{Found}
 use Rattle.reach.specs.declared.Found.the-variants.{At, Nothing}
 use Rattle.tables.specs.Grow.{Below, Grown, Inside, Set, Smallest, any, below-step, same}
-
-all-false : (n j : ℕ) → getD (replicate n false) j false ≡ false
-all-false zero j = refl
-all-false (suc n) zero = refl
-all-false (suc n) (suc j) = all-false n j
 
 -- ---- a store
 
@@ -133,7 +128,7 @@ module _ (t : Set) (policy : List ℕ) where
 
   pub seen-none : (r : Set) → Seen (replicate 64 false) r
   unfolding marked
-  seen-none r x m = absurd (true≢false (sym m ∙ all-false 64 x))
+  seen-none r x m = absurd (true≢false (sym m ∙ replicated false 64 x))
 
   module _ (seen : List Bool) (r : Set) (w : Seen seen r) where
     pub seen-more : (x : ℕ) {q : Set} → Inside r q → ((getD policy x 0 ≡ 2 → ⊥) → Row t x q) → Seen (set seen x true) q
@@ -195,7 +190,7 @@ origin-is = record { has = refl; only = λ j. only j }
   where
     only : (j : ℕ) → marked (true ∷ replicate 63 false) j ≡ true → j ≡ 0
     only zero t = refl
-    only (suc j) t = absurd (true≢false (sym t ∙ all-false 63 j))
+    only (suc j) t = absurd (true≢false (sym t ∙ replicated false 63 j))
 
 -- ---- the verdict
 

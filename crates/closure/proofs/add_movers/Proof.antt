@@ -1,6 +1,6 @@
 -- `closure::add_movers` meets its contract.
 use Rattle.closure.specs.Adds.{folded-moves}
-use Rattle.itinerary.specs.Laws.{getD-zero}
+use Rattle.model.specs.Laws.Finite.{replicated}
 use borrow.Author.Needs.{needs}
 use Rattle.closure.proofs.add_movers.Statement.{statement}
 use Rattle.closure.proofs.add_movers.Tie as tie
@@ -25,7 +25,7 @@ returns c =
     let a = c .before .before .before .before .before .before .before .before .before .before .before .args in
     let t = c .before .before .before .before .before .before .transpose in
     let f = c .before .before .fold in
-    folded-moves (a .w .now) _ (t .last .0) (a .partners .now) (getD-zero 64) (t .ensures) (f .ensures)
+    folded-moves (a .w .now) _ (t .last .0) (a .partners .now) (replicated 0 64) (t .ensures) (f .ensures)
 
 pub add-movers-spec : {M : Type 1} → statement M
 add-movers-spec =

@@ -1,6 +1,6 @@
 -- `closure::close` meets its contract.
 use Rattle.closure.specs.Rounds.{close-end}
-use Rattle.itinerary.specs.Laws.{getD-zero}
+use Rattle.model.specs.Laws.Finite.{replicated}
 use borrow.Author.Needs.{needs}
 use mathlib.Core.Path.{refl}
 use Rattle.closure.proofs.close.Statement.{statement}
@@ -10,7 +10,7 @@ slice-aggregate-grow : tie.Need-slice-aggregate-grow
 slice-aggregate-grow c = search needs
 
 grow-requires : tie.Need-grow-requires
-grow-requires c κs = let p = c .before .before .before .before .pre in (p .0, (refl, (getD-zero 192, p .1)))
+grow-requires c κs = let p = c .before .before .before .before .pre in (p .0, (refl, (replicated 0 192, p .1)))
 
 slice-aggregate-spread : tie.Need-slice-aggregate-spread
 slice-aggregate-spread c = search needs

@@ -1,6 +1,6 @@
 -- `holding::rules_hold` meets its contract.
 use Rattle.holding.specs.Laws.{rules-by}
-use Rattle.itinerary.specs.Laws.{getD-zero}
+use Rattle.model.specs.Laws.Finite.{replicated}
 use borrow.Author.Needs.{needs}
 use mathlib.Core.Path.{refl}
 use Rattle.holding.proofs.rules_hold.Statement.{statement}
@@ -19,7 +19,7 @@ slice-aggregate-fold-2 : tie.Need-slice-aggregate-fold-2
 slice-aggregate-fold-2 c = search needs
 
 fold-requires : tie.Need-fold-requires
-fold-requires c κs = (refl, (getD-zero 192, (c .before .before .before .load .kept .0, c .before .before .before .before .before .before .before .pre .0)))
+fold-requires c κs = (refl, (replicated 0 192, (c .before .before .before .load .kept .0, c .before .before .before .before .before .before .before .pre .0)))
 
 slice-aggregate-add-movers : tie.Need-slice-aggregate-add-movers
 slice-aggregate-add-movers c = search needs
@@ -48,7 +48,7 @@ returns c =
     let l = c .before .before .before .before .before .before .before .before .before .before .before .before .before .load in
     let f = c .before .before .before .before .before .before .before .before .before .fold in
     let m = c .before .before .before .before .add-movers in
-    rules-by (s .args .it .now) (s .args .table .now) (l .last .0) (f .last .0) _ (m .last .0) (c .rows-hold .result) (s .pre .0) (l .ensures) (f .ensures) (getD-zero 192) (m .ensures) (c .rows-hold .ensures)
+    rules-by (s .args .it .now) (s .args .table .now) (l .last .0) (f .last .0) _ (m .last .0) (c .rows-hold .result) (s .pre .0) (l .ensures) (f .ensures) (replicated 0 192) (m .ensures) (c .rows-hold .ensures)
 
 pub rules-hold-spec : {M : Type 1} → statement M
 rules-hold-spec =

@@ -1,7 +1,7 @@
 -- `maker::close` meets its contract.
 use borrow.Author.Needs.{needs}
 use mathlib.Core.Path.{refl}
-use Rattle.itinerary.specs.Laws.{getD-zero}
+use Rattle.model.specs.Laws.Finite.{replicated}
 use Rattle.maker.specs.Laws.{close-made}
 use Rattle.maker.proofs.close.Statement.{statement}
 use Rattle.maker.proofs.close.Tie as tie
@@ -19,7 +19,7 @@ slice-aggregate-fold-2 : tie.Need-slice-aggregate-fold-2
 slice-aggregate-fold-2 c = search needs
 
 fold-requires : tie.Need-fold-requires
-fold-requires c κs = (refl, (getD-zero 192, (c .before .before .before .load .kept .0, c .before .before .before .before .before .before .before .before .pre .1)))
+fold-requires c κs = (refl, (replicated 0 192, (c .before .before .before .load .kept .0, c .before .before .before .before .before .before .before .before .pre .1)))
 
 slice-aggregate-close : tie.Need-slice-aggregate-close
 slice-aggregate-close c = search needs

@@ -1,6 +1,6 @@
 -- The laws of the bounded loops, in both directions.
 use Prim.Native.Nat.{_+_, _<_, _≤_, suc, zero, ℕ}
-use lib.ListN.{getD, length}
+use lib.ListN.{getD, length, replicate}
 use mathlib.Core.Bool.{Bool, false, true, true≢false}
 use mathlib.Core.Option.{none, some}
 use mathlib.Core.Path.{_∙_, _≡_, ap, refl, sym}
@@ -151,3 +151,9 @@ module _ (f : ℕ → Bool) where
       go : Dec (i ≡ k) → (suc i ≤ k → k < suc i + n → f k ≡ true → ((j : ℕ) → suc i ≤ j → j < k → f j ≡ false) → lowest f (suc i) n ≡ some k) → lowest f i (suc n) ≡ some k
       go (yes q) ih = let w : f i ≡ true = ap f q ∙ e in rw (w, lowest) (ap some q)
       go (no q) ih = rw (h i (omega arith) (omega arith), lowest) (ih (omega arith) (omega arith) e (λ j a b. h j (omega arith) b))
+
+-- copies of a alone are found, past the end too where a is what stands for nothing
+pub replicated : {A : Type 0} (a : A) (n j : ℕ) → getD (replicate n a) j a ≡ a
+replicated a zero j = refl
+replicated a (suc n) zero = refl
+replicated a (suc n) (suc j) = replicated a n j

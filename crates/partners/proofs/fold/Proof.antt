@@ -1,5 +1,5 @@
 -- `partners::fold` meets its contract.
-use Rattle.itinerary.specs.Laws.{getD-zero}
+use Rattle.model.specs.Laws.Finite.{replicated}
 use Rattle.model.specs.Laws.Bytes.{valid-wf}
 use Rattle.partners.specs.Laws.{folds-names}
 use borrow.Author.Needs.{needs}
@@ -26,7 +26,7 @@ returns c =
     let s = c .before .before .before .before .before .before .before .before .before .before .before in
     let t = c .before .before .before .before .before .before .transpose in
     let q = c .before .before .aim-all in
-    folds-names (valid-wf (s .args .it .now) (s .pre .1 .1 .1)) (s .args .w .now) _ (t .last .0) (getD-zero 64) (t .ensures) _ (q .last .0) (q .ensures)
+    folds-names (valid-wf (s .args .it .now) (s .pre .1 .1 .1)) (s .args .w .now) _ (t .last .0) (replicated 0 64) (t .ensures) _ (q .last .0) (q .ensures)
 
 pub fold-spec : {M : Type 1} → statement M
 fold-spec =
