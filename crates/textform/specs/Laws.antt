@@ -1,2 +1,3 @@
 -- What is proved of the text form.
 pub mod Nesting
+pub mod Lines

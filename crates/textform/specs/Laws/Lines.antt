@@ -1,0 +1,182 @@
+-- A line that is written is read back, and what a line that is read has.
+use Prim.Native.Nat.{_%_, _*_, _+_, _-_, _/_, _<_, _≤_, suc, zero, ℕ}
+use borrow.Author.Tests.{eq-eqb, eqb-false, eqb-true, le-leb, leb-true, lt-leb, ne-eqb}
+use lib.Dec.{eqb, leb}
+use lib.ListN.{List·getD-eq-default, drop, getD, length, length-append, length-drop, length-replicate, replicate}
+use lib.Seq.{drop-append-seam, drop-at}
+use mathlib.Core.Bool.{Bool, _&&_, false, true, true≢false}
+use mathlib.Core.List.{List, [], _++_, _∷_, append-assoc}
+use mathlib.Core.Logic.{_≢_}
+use mathlib.Core.Path.{_∙_, _≡_, ap, refl, sym}
+use native.Mathlib.Decide.{decLe, ℕ-discrete}
+use native.Mathlib.Omega.{arith}
+use Rattle.model.specs.Laws.WellFormed.{and-left, and-right, label-in}
+use Rattle.model.specs.Listing.{digitsIn, field}
+use Rattle.model.specs.Records.{byte}
+use Rattle.model.specs.Validity.{labelIn}
+use Rattle.textform.specs.Laws.Nesting.{Nested, Right, cons, nil}
+use Rattle.textform.specs.Lines.{ambientWord, entry, inWord, indent, kindWord, lineBytes, openWord, outWord, render}
+use Rattle.textform.specs.Reading.{Scan, before, demand, digit, ended, labelled, lineRead, named, numeral, numeralOf, scan, scanFrom, spaces, starts, unknownKind, worded}
+use Rattle.textform.specs.declared.Line.{Line}
+use Rattle.textform.specs.declared.LineRead.{LineRead}
+use Rattle.textform.specs.declared.LineRead.the-variants.{Bad, Good}
+use Rattle.textform.specs.declared.Numeral.{Numeral}
+
+-- the digits of a number, by how many there are
+digits-low : (k n : ℕ) → n ≤ 9 → digitsIn (suc k) n ≡ (48 + n) ∷ []
+unfolding digitsIn
+digits-low k n h = rw (le-leb n 9 h, digitsIn)
+
+digits-high : (k n : ℕ) → 9 < n → digitsIn (suc k) n ≡ digitsIn k (n / 10) ++ ((48 + n % 10) ∷ [])
+unfolding digitsIn
+digits-high k n h = rw (lt-leb n 9 h, digitsIn)
+
+pub digits-1 : (n : ℕ) → n ≤ 9 → digitsIn 5 n ≡ (48 + n) ∷ []
+digits-1 n h = digits-low 4 n h
+
+pub digits-2 : (n : ℕ) → 9 < n → n ≤ 99 → digitsIn 5 n ≡ (48 + n / 10) ∷ (48 + n % 10) ∷ []
+digits-2 n l h = digits-high 4 n l ∙ ap (λ x. x ++ ((48 + n % 10) ∷ [])) (digits-low 3 (n / 10) (omega arith))
+
+pub digits-3 : (n : ℕ) → 99 < n → n ≤ 999 → digitsIn 5 n ≡ (48 + n / 10 / 10) ∷ (48 + n / 10 % 10) ∷ (48 + n % 10) ∷ []
+digits-3 n l h =
+    digits-high 4 n (omega arith)
+    ∙ ap (λ x. x ++ ((48 + n % 10) ∷ []))
+    (digits-high 3 (n / 10) (omega arith) ∙ ap (λ x. x ++ ((48 + n / 10 % 10) ∷ [])) (digits-low 2 (n / 10 / 10) (omega arith)))
+
+-- the number of bytes that are digits, by how many
+digit-is : (x : ℕ) → x ≤ 9 → digit (48 + x) ≡ true
+unfolding digit
+digit-is x h = rw (le-leb 48 (48 + x) (omega arith), le-leb (48 + x) 57 (omega arith))
+
+numeral-0 : (a b c : ℕ) → a ≡ 48 → numeralOf a b c ≡ record { value = 0; width = 1 }
+unfolding numeralOf digit
+numeral-0 a b c e = rw e
+
+module _ (a b c : ℕ) (d : digit a ≡ true) (z : a ≢ 48) where
+  pub numeral-1 : digit b ≡ false → numeralOf a b c ≡ record { value = a - 48; width = 1 }
+  unfolding numeralOf
+  numeral-1 e = rw (d, numeralOf) (rw (ne-eqb a 48 z) (rw e))
+
+  pub numeral-2 : digit b ≡ true → digit c ≡ false → numeralOf a b c ≡ record { value = 10 * (a - 48) + (b - 48); width = 2 }
+  unfolding numeralOf
+  numeral-2 e f = rw (d, numeralOf) (rw (ne-eqb a 48 z) (rw e (rw f)))
+
+  pub numeral-3 : digit b ≡ true → digit c ≡ true → numeralOf a b c ≡ record { value = 100 * (a - 48) + (10 * (b - 48) + (c - 48)); width = 3 }
+  unfolding numeralOf
+  numeral-3 e f = rw (d, numeralOf) (rw (ne-eqb a 48 z) (rw e (rw f)))
+
+numeral-path : {v v′ w w′ : ℕ} → v ≡ v′ → w ≡ w′ → _≡_ {A = Numeral} (record { value = v; width = w }) (record { value = v′; width = w′ })
+numeral-path p q = rw (p, q)
+
+-- a number that is written is read back
+pub numeral-digits : (n : ℕ) → n ≤ 999 → (c : ℕ) (s : List ℕ) → digit c ≡ false → numeral (digitsIn 5 n ++ (c ∷ s)) ≡ record { value = n; width = length (digitsIn 5 n) }
+unfolding numeral
+numeral-digits n h c s e = go (decLe n 9) (decLe n 99)
+  where
+    one : Dec (n ≡ 0) → n ≤ 9 → numeralOf (48 + n) c (byte s 0) ≡ record { value = n; width = 1 }
+    one (yes u) l = numeral-0 _ _ _ (omega arith) ∙ numeral-path (sym u) refl
+    one (no u) l = numeral-1 _ _ _ (digit-is n l) (omega arith) e ∙ numeral-path (omega arith) refl
+
+    go : Dec (n ≤ 9) → Dec (n ≤ 99) → numeral (digitsIn 5 n ++ (c ∷ s)) ≡ record { value = n; width = length (digitsIn 5 n) }
+    go (yes l) m = rw (digits-1 n l) (one (ℕ-discrete n 0) l)
+    go (no l) (yes m) =
+        rw (digits-2 n (omega arith) m)
+        (numeral-2 (48 + n / 10) (48 + n % 10) c (digit-is (n / 10) (omega arith)) (omega arith) (digit-is (n % 10) (omega arith)) e ∙ numeral-path (omega arith) refl)
+    go (no l) (no m) =
+        rw (digits-3 n (omega arith) h)
+        (numeral-3 (48 + n / 10 / 10) (48 + n / 10 % 10) (48 + n % 10) (digit-is (n / 10 / 10) (omega arith)) (omega arith) (digit-is (n / 10 % 10) (omega arith)) (digit-is (n % 10) (omega arith)) ∙ numeral-path (omega arith) refl)
+
+digits-some : (n : ℕ) → 1 ≤ length (digitsIn 5 n)
+digits-some n = go (decLe n 9)
+  where
+    go : Dec (n ≤ 9) → 1 ≤ length (digitsIn 5 n)
+    go (yes l) = rw (digits-1 n l) (omega arith)
+    go (no l) = rw (digits-high 4 n (omega arith), length-append) (omega arith)
+
+-- the bytes after a number that is written are no digits
+ten-no-digit : digit 10 ≡ false
+unfolding digit
+ten-no-digit = refl
+
+space-no-digit : digit 32 ≡ false
+unfolding digit
+space-no-digit = refl
+
+-- the parts of a line that is written are read back
+named-back : (l : Line) → l .name ≤ 63 → (s : List ℕ) → named (l .depth) (l .kind) (l .label) (32 ∷ (digitsIn 5 (l .name) ++ (10 ∷ s))) ≡ Good l (length s)
+unfolding named demand ended
+named-back l h s =
+    rw (numeral-digits (l .name) (omega arith) 10 s ten-no-digit)
+    (rw (le-leb 1 (length (digitsIn 5 (l .name))) (digits-some (l .name)), le-leb (l .name) 63 h, drop-append-seam (digitsIn 5 (l .name)) (10 ∷ s)))
+
+labelled-back : (l : Line) → Right l → (s : List ℕ) → labelled (l .depth) (l .kind) (digitsIn 5 (l .label) ++ (32 ∷ (digitsIn 5 (l .name) ++ (10 ∷ s)))) ≡ Good l (length s)
+unfolding labelled demand
+labelled-back l r s =
+    rw (numeral-digits (l .label) (omega (arith, label-in _ _ (r .label))) 32 _ space-no-digit)
+    (rw (le-leb 1 (length (digitsIn 5 (l .label))) (digits-some (l .label)), r .label, drop-append-seam (digitsIn 5 (l .label)) (32 ∷ (digitsIn 5 (l .name) ++ (10 ∷ s))))
+    (named-back l (r .name) s))
+
+worded-back : (d k : ℕ) → 1 ≤ k → k ≤ 4 → (s : List ℕ) → worded d (kindWord k ++ s) ≡ labelled d k s
+unfolding worded kindWord starts ambientWord inWord outWord openWord
+worded-back d zero l h s = absurd (omega arith)
+worded-back d (suc zero) l h s = refl
+worded-back d (suc (suc zero)) l h s = refl
+worded-back d (suc (suc (suc zero))) l h s = refl
+worded-back d (suc (suc (suc (suc zero)))) l h s = refl
+worded-back d (suc (suc (suc (suc (suc k))))) l h s = absurd (omega arith)
+
+word-solid : (k : ℕ) → 1 ≤ k → k ≤ 4 → (s : List ℕ) → spaces (kindWord k ++ s) ≡ 0
+unfolding spaces kindWord ambientWord inWord outWord openWord
+word-solid zero l h s = absurd (omega arith)
+word-solid (suc zero) l h s = refl
+word-solid (suc (suc zero)) l h s = refl
+word-solid (suc (suc (suc zero))) l h s = refl
+word-solid (suc (suc (suc (suc zero)))) l h s = refl
+word-solid (suc (suc (suc (suc (suc k))))) l h s = absurd (omega arith)
+
+spaces-after : (n : ℕ) (s : List ℕ) → spaces s ≡ 0 → spaces (replicate n 32 ++ s) ≡ n
+unfolding spaces
+spaces-after zero s e = e
+spaces-after (suc n) s e = ap suc (spaces-after n s e)
+
+-- what follows the indentation of a line
+unfoldable tailBytes : Line → List ℕ → List ℕ
+tailBytes l s = kindWord (l .kind) ++ (digitsIn 5 (l .label) ++ (32 ∷ (digitsIn 5 (l .name) ++ (10 ∷ s))))
+
+line-parts : (l : Line) (s : List ℕ) → lineBytes l ++ s ≡ replicate (2 * l .depth) 32 ++ tailBytes l s
+unfolding lineBytes entry indent field tailBytes
+line-parts l s = simp append-assoc
+
+-- a line that is written is read back, and nothing after it is looked at
+pub line-back : (d : ℕ) (l : Line) → l .depth ≤ d → Right l → (s : List ℕ) → lineRead d (lineBytes l ++ s) ≡ Good l (length s)
+unfolding lineRead demand tailBytes
+line-back d l h r s =
+    let X = tailBytes l s in
+    let e : spaces (replicate (2 * l .depth) 32 ++ tailBytes l s) ≡ 2 * l .depth = spaces-after (2 * l .depth) _ (word-solid (l .kind) (r .kind-low) (r .kind-high) _) in
+    let f : 2 * l .depth / 2 ≡ l .depth = omega arith in
+    rw (line-parts l s) (rw e (rw (eq-eqb (2 * l .depth % 2) 0 (omega arith), f, le-leb (l .depth) d h, drop-at (replicate (2 * l .depth) 32) (tailBytes l s) (2 * l .depth) (length-replicate _ _))
+    (worded-back (l .depth) (l .kind) (r .kind-low) (r .kind-high) _ ∙ labelled-back l r s)))
+
+-- what is no line is no end
+empty-bad : (d : ℕ) → lineRead d [] ≡ Bad unknownKind
+unfolding lineRead demand spaces worded starts ambientWord inWord outWord openWord
+empty-bad d = rw (le-leb 0 d (omega arith))
+
+-- a line, and then the others
+pub scan-good : (room d : ℕ) (s : List ℕ) (l : Line) (left : ℕ) → lineRead d s ≡ Good l left → scanFrom (suc room) d s ≡ before l (scanFrom room (suc (l .depth)) (drop (length s - left) s))
+unfolding scanFrom
+scan-good room d [] l left e = let u : _≡_ {A = ℕ} 0 1 = cc (empty-bad d) in absurd (omega arith)
+scan-good room d (c ∷ s) l left e = rw (e, scanFrom)
+
+-- lines that are written are read back
+pub scan-render : (room d : ℕ) (ls : List Line) → Nested d ls → length ls ≤ room → scanFrom room d (render ls) ≡ record { lines = ls; cause = 0 }
+unfolding scanFrom render before
+scan-render zero d [] n h = refl
+scan-render (suc room) d [] n h = refl
+scan-render zero d (l ∷ ls) n h = absurd (omega arith)
+scan-render (suc room) d (l ∷ ls) (cons deep r n) h =
+    scan-good room d (lineBytes l ++ render ls) l (length (render ls)) (line-back d l deep r (render ls))
+    ∙ rw (drop-at (lineBytes l) (render ls) _ (sym (rest-length (lineBytes l) (render ls)))) (ap (before l) (scan-render room (suc (l .depth)) ls n (omega arith)))
+  where
+    rest-length : (a b : List ℕ) → length (a ++ b) - length b ≡ length a
+    rest-length a b = rw length-append (omega arith)
