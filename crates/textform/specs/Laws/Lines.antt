@@ -180,3 +180,100 @@ scan-render (suc room) d (l ∷ ls) (cons deep r n) h =
   where
     rest-length : (a b : List ℕ) → length (a ++ b) - length b ≡ length a
     rest-length a b = rw length-append (omega arith)
+
+-- what a line that is read has
+pub record Got (d : ℕ) (s : List ℕ) (l : Line) (left : ℕ) : Type 0 where
+  pub deep : l .depth ≤ d
+  pub right : Right l
+  pub fewer : left < length s
+
+demand-good : (b : Bool) (cause : ℕ) (next : LineRead) {l : Line} {left : ℕ} → demand b cause next ≡ Good l left → (b ≡ true) × (next ≡ Good l left)
+unfolding demand
+demand-good true cause next e = (refl, e)
+demand-good false cause next e = let u : _≡_ {A = ℕ} 0 1 = cc in absurd (omega arith)
+
+ended-good : (m : Line) (s : List ℕ) {l : Line} {left : ℕ} → ended m s ≡ Good l left → (m ≡ l) × (left < length s)
+unfolding ended
+ended-good m [] e = let u : _≡_ {A = ℕ} 0 1 = cc in absurd (omega arith)
+ended-good m (c ∷ s) {l} {left} e =
+    let g = demand-good (eqb c 10) 9 (Good m (length s)) e .1 in
+    let u : m ≡ l = cc in
+    let v : length s ≡ left = cc in
+    (u, omega arith)
+
+named-good : (d k label : ℕ) (s : List ℕ) {l : Line} {left : ℕ} → named d k label s ≡ Good l left → (l .depth ≡ d) × (l .kind ≡ k) × (l .label ≡ label) × (l .name ≤ 63) × (left < length s)
+unfolding named
+named-good d k label s {l} {left} e =
+    let n = numeral (drop 1 s) in
+    let a = demand-good (eqb (byte s 0) 32) 7 _ e .1 in
+    let b = demand-good (leb 1 (n .width)) 7 _ a .1 in
+    let c = demand-good (leb (n .value) 63) 8 _ b in
+    let g = ended-good _ _ (c .1) in
+    let w : l .name ≡ n .value = sym (ap (λ x. x .name) (g .0)) in
+    (sym (ap (λ x. x .depth) (g .0)), sym (ap (λ x. x .kind) (g .0)), sym (ap (λ x. x .label) (g .0)), omega (arith, leb-true (n .value) 63 (c .0)), omega (arith, g .1, length-drop (n .width) (drop 1 s), length-drop 1 s))
+
+labelled-good : (d k : ℕ) (s : List ℕ) {l : Line} {left : ℕ} → 1 ≤ k → k ≤ 4 → labelled d k s ≡ Good l left → Got d s l left
+unfolding labelled
+labelled-good d k s {l} {left} x y e =
+    let n = numeral s in
+    let a = demand-good (leb 1 (n .width)) 5 _ e .1 in
+    let b = demand-good (labelIn (eqb k 1) (n .value)) 6 _ a in
+    let g = named-good d k (n .value) _ (b .1) in
+    record {
+      deep = omega (arith, g .0);
+      right = record { kind-low = omega (arith, g .1); kind-high = omega (arith, g .1); label = rw (g .1, g .2) (b .0); name = g .3 };
+      fewer = omega (arith, g .4, length-drop (n .width) s);
+    }
+
+got-past : (n : ℕ) (s : List ℕ) {d : ℕ} {l : Line} {left : ℕ} → Got d (drop n s) l left → Got d s l left
+got-past n s g = record { deep = g .deep; right = g .right; fewer = omega (arith, g .fewer, length-drop n s) }
+
+worded-good : (d : ℕ) (s : List ℕ) {l : Line} {left : ℕ} → worded d s ≡ Good l left → Got d s l left
+unfolding worded
+worded-good d s {l} {left} e = first (starts ambientWord s) refl
+  where
+    fourth : (b : Bool) → elim b [ true ↦ labelled d 4 (drop 5 s) | false ↦ Bad unknownKind ] ≡ Good l left → Got d s l left
+    fourth true q = got-past 5 s (labelled-good d 4 _ (omega arith) (omega arith) q)
+    fourth false q = let u : _≡_ {A = ℕ} 0 1 = cc in absurd (omega arith)
+
+    third : (b : Bool) → elim b [ true ↦ labelled d 3 (drop 4 s) | false ↦ elim (starts openWord s) [ true ↦ labelled d 4 (drop 5 s) | false ↦ Bad unknownKind ] ] ≡ Good l left → Got d s l left
+    third true q = got-past 4 s (labelled-good d 3 _ (omega arith) (omega arith) q)
+    third false q = fourth (starts openWord s) q
+
+    second : (b : Bool) → elim b [ true ↦ labelled d 2 (drop 3 s) | false ↦ elim (starts outWord s) [ true ↦ labelled d 3 (drop 4 s) | false ↦ elim (starts openWord s) [ true ↦ labelled d 4 (drop 5 s) | false ↦ Bad unknownKind ] ] ] ≡ Good l left → Got d s l left
+    second true q = got-past 3 s (labelled-good d 2 _ (omega arith) (omega arith) q)
+    second false q = third (starts outWord s) q
+
+    first : (b : Bool) → starts ambientWord s ≡ b → Got d s l left
+    first true q = got-past 8 s (labelled-good d 1 _ (omega arith) (omega arith) (rw (q, worded) at e))
+    first false q = second (starts inWord s) (rw (q, worded) at e)
+
+pub line-good : (d : ℕ) (s : List ℕ) {l : Line} {left : ℕ} → lineRead d s ≡ Good l left → Got d s l left
+unfolding lineRead
+line-good d s e =
+    let n = spaces s in
+    let a = demand-good (eqb (n % 2) 0) 2 _ e .1 in
+    let b = demand-good (leb (n / 2) d) 3 _ a in
+    let g = got-past n s (worded-good (n / 2) _ (b .1)) in
+    record { deep = omega (arith, g .deep, leb-true (n / 2) d (b .0)); right = g .right; fewer = g .fewer }
+
+pub scan-bad : (room d : ℕ) (s : List ℕ) (cause : ℕ) → s ≢ [] → lineRead d s ≡ Bad cause → scanFrom (suc room) d s ≡ record { lines = []; cause = cause }
+unfolding scanFrom
+scan-bad room d [] cause z e = absurd (z refl)
+scan-bad room d (c ∷ s) cause z e = rw (e, scanFrom)
+
+-- the lines that a scan reads are well nested, and no more than there is room for
+pub scan-nested : (room d : ℕ) (s : List ℕ) → Nested d (scanFrom room d s .lines) × (length (scanFrom room d s .lines) ≤ room)
+unfolding scanFrom before
+scan-nested zero d [] = (nil, omega arith)
+scan-nested zero d (c ∷ s) = (nil, omega arith)
+scan-nested (suc room) d [] = (nil, omega arith)
+scan-nested (suc room) d (c ∷ s) = go (lineRead d (c ∷ s)) refl (scan-nested room)
+  where
+    go : (x : LineRead) → lineRead d (c ∷ s) ≡ x → ((d : ℕ) (s : List ℕ) → Nested d (scanFrom room d s .lines) × (length (scanFrom room d s .lines) ≤ room)) →
+        Nested d (scanFrom (suc room) d (c ∷ s) .lines) × (length (scanFrom (suc room) d (c ∷ s) .lines) ≤ suc room)
+    go (Good l left) e ih =
+        let g = line-good d (c ∷ s) e in
+        let h = ih (suc (l .depth)) (drop (length (c ∷ s) - left) (c ∷ s)) in
+        rw (scan-good room d (c ∷ s) l left e) (cons (g .deep) (g .right) (h .0), omega (arith, h .1))
+    go (Bad cause) e ih = rw (scan-bad room d (c ∷ s) cause (λ q. let u : _≡_ {A = ℕ} 0 1 = cc in absurd (omega arith)) e) (nil, omega arith)

@@ -1,0 +1,1 @@
+-- Text to bytes to text is the identity on what is written.
