@@ -40,7 +40,7 @@ length-placed k above [] = refl
 length-placed k above (l ∷ ls) = ap suc (length-placed (suc k) (set above (suc (l .depth)) k) ls)
 
 -- entry e of above
-abbrev ab : List ℕ → ℕ → ℕ
+abbrev pub ab : List ℕ → ℕ → ℕ
 ab above e = getD above e 0
 
 -- the parent of a line placed later is a later line, or one that above has at a depth no greater
@@ -231,7 +231,7 @@ pub none-length : length noneAbove ≡ 1025
 unfolding noneAbove
 none-length = length-replicate {0} {A = ℕ} 1025 0
 
-none-zero : (e : ℕ) → ab noneAbove e ≡ 0
+pub none-zero : (e : ℕ) → ab noneAbove e ≡ 0
 unfolding noneAbove
 none-zero e = getD-zero 1025 e
 
