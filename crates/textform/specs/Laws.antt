@@ -2,3 +2,4 @@
 pub mod Nesting
 pub mod Lines
 pub mod Identity
+pub mod Scanning

@@ -11,7 +11,7 @@ use Rattle.textform.specs.Lines.{ambientWord, inWord, openWord, outWord,
 use Rattle.textform.specs.declared.Line.{Line}
 use Rattle.textform.specs.declared.LineRead.{LineRead}
 use Rattle.textform.specs.declared.LineRead.the-variants.{Bad, Good}
-use Rattle.textform.specs.declared.Numeral.{Numeral}
+use Rattle.textform.specs.declared.Decimal.{Decimal}
 use Rattle.textform.specs.declared.TextRead.{TextRead}
 use Rattle.textform.specs.declared.TextRead.the-variants.{Fault, Records}
 
@@ -72,7 +72,7 @@ unfoldable pub digit : ℕ → Bool
 digit c = leb 48 c && leb c 57
 
 -- a decimal number with no leading zero, of at most three digits, whose first bytes are a, b, c
-unfoldable pub numeralOf : ℕ → ℕ → ℕ → Numeral
+unfoldable pub numeralOf : ℕ → ℕ → ℕ → Decimal
 numeralOf a b c =
     elim (digit a) [
       false ↦ record { value = 0; width = 0 }
@@ -85,7 +85,7 @@ numeralOf a b c =
           | true ↦ record { value = 100 * (a - 48) + (10 * (b - 48) + (c - 48)); width = 3 } ] ] ] ]
 
 -- the number that the bytes start with
-unfoldable pub numeral : List ℕ → Numeral
+unfoldable pub numeral : List ℕ → Decimal
 numeral s = numeralOf (byte s 0) (byte s 1) (byte s 2)
 
 -- what is next where the test is true, and the fault otherwise

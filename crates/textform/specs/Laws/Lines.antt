@@ -20,7 +20,7 @@ use Rattle.textform.specs.Reading.{Scan, before, demand, digit, ended, l
 use Rattle.textform.specs.declared.Line.{Line}
 use Rattle.textform.specs.declared.LineRead.{LineRead}
 use Rattle.textform.specs.declared.LineRead.the-variants.{Bad, Good}
-use Rattle.textform.specs.declared.Numeral.{Numeral}
+use Rattle.textform.specs.declared.Decimal.{Decimal}
 
 -- the digits of a number, by how many there are
 digits-low : (k n : ℕ) → n ≤ 9 → digitsIn (suc k) n ≡ (48 + n) ∷ []
@@ -48,7 +48,7 @@ digit-is : (x : ℕ) → x ≤ 9 → digit (48 + x) ≡ true
 unfolding digit
 digit-is x h = rw (le-leb 48 (48 + x) (omega arith), le-leb (48 + x) 57 (omega arith))
 
-numeral-0 : (a b c : ℕ) → a ≡ 48 → numeralOf a b c ≡ record { value = 0; width = 1 }
+pub numeral-0 : (a b c : ℕ) → a ≡ 48 → numeralOf a b c ≡ record { value = 0; width = 1 }
 unfolding numeralOf digit
 numeral-0 a b c e = rw e
 
@@ -65,7 +65,7 @@ module _ (a b c : ℕ) (d : digit a ≡ true) (z : a ≢ 48) where
   unfolding numeralOf
   numeral-3 e f = rw (d, numeralOf) (rw (ne-eqb a 48 z) (rw e (rw f)))
 
-numeral-path : {v v′ w w′ : ℕ} → v ≡ v′ → w ≡ w′ → _≡_ {A = Numeral} (record { value = v; width = w }) (record { value = v′; width = w′ })
+numeral-path : {v v′ w w′ : ℕ} → v ≡ v′ → w ≡ w′ → _≡_ {A = Decimal} (record { value = v; width = w }) (record { value = v′; width = w′ })
 numeral-path p q = rw (p, q)
 
 -- a number that is written is read back
