@@ -4,6 +4,7 @@ use lib.Dec.{eqb, leb}
 use lib.ListN.{drop, length, replicate, set, getD}
 use mathlib.Core.Bool.{Bool, _&&_, false, true}
 use mathlib.Core.List.{List, [], _∷_}
+use mathlib.Core.Option.{Option, none, some}
 use Rattle.model.specs.Records.{byte, encode}
 use Rattle.model.specs.Validity.{labelIn}
 use Rattle.model.specs.declared.Rec.{Rec}
@@ -130,24 +131,24 @@ lineRead deepest s =
     let n = spaces s in
     demand (eqb (n % 2) 0) oddIndent (demand (leb (n / 2) deepest) tooDeep (worded (n / 2) (drop n s)))
 
--- the lines read before the end or the first fault, and the cause, 0 at the end
+-- the lines read before the end or the first fault, and the fault's cause
 pub record Scan : Type 0 where
   pub lines : List Line
-  pub cause : ℕ
+  pub fault : Option ℕ
 
 -- one line more before the others
 unfoldable pub before : Line → Scan → Scan
-before l x = record { lines = l ∷ x .lines; cause = x .cause }
+before l x = record { lines = l ∷ x .lines; fault = x .fault }
 
 -- the bytes s line by line, at most room of them; each is indented by at most one step more than the one before
 unfoldable pub scanFrom : ℕ → ℕ → List ℕ → Scan
-scanFrom zero deepest [] = record { lines = []; cause = 0 }
-scanFrom zero deepest (c ∷ s) = record { lines = []; cause = tooMany }
-scanFrom (suc room) deepest [] = record { lines = []; cause = 0 }
+scanFrom zero deepest [] = record { lines = []; fault = none }
+scanFrom zero deepest (c ∷ s) = record { lines = []; fault = some tooMany }
+scanFrom (suc room) deepest [] = record { lines = []; fault = none }
 scanFrom (suc room) deepest (c ∷ s) =
     elim (lineRead deepest (c ∷ s)) [
       Good l left ↦ before l (scanFrom room (suc (l .depth)) (drop (suc (length s) - left) (c ∷ s)))
-    | Bad cause ↦ record { lines = []; cause = cause } ]
+    | Bad cause ↦ record { lines = []; fault = some cause } ]
 
 -- the first line is not indented
 unfoldable pub scan : ℕ → List ℕ → Scan
@@ -175,20 +176,29 @@ placed ls = placedFrom 1 noneAbove ls
 unfoldable pub roomIn : List ℕ → ℕ
 roomIn it = min 1024 (length it / 8)
 
--- by how the scan ended; the line at fault is the one after the lines read
-unfoldable pub readBy : Scan → ℕ → TextRead
-readBy x zero = Records (length (x .lines))
-readBy x (suc cause) = Fault (suc (length (x .lines))) (suc cause)
+-- the number of lines read, or the fault's cause with its line, the one after those read
+unfoldable pub readBy : ℕ → Option ℕ → TextRead
+readBy n none = Records n
+readBy n (some cause) = Fault (suc n) cause
+
+-- what a scan answers
+unfoldable pub scanAnswer : Scan → TextRead
+scanAnswer x = readBy (length (x .lines)) (x .fault)
 
 -- reader: how many records it wrote, or the lowest line at fault
 unfoldable pub readAnswer : List ℕ → List ℕ → TextRead
-readAnswer text it = let x = scan (roomIn it) text in readBy x (x .cause)
+readAnswer text it = scanAnswer (scan (roomIn it) text)
 
--- by how the scan ended
-unfoldable pub readInto : Scan → List ℕ → ℕ → List ℕ
-readInto x it zero = over (encode (placed (x .lines))) it
-readInto x it (suc cause) = it
+-- by whether there is a fault
+unfoldable pub readInto : Option ℕ → List ℕ → List ℕ → List ℕ
+readInto none bytes it = over bytes it
+readInto (some cause) bytes it = it
 
 -- the lent itinerary after the reader
 unfoldable pub readAfter : List ℕ → List ℕ → List ℕ
-readAfter text it = let x = scan (roomIn it) text in readInto x it (x .cause)
+readAfter text it = let x = scan (roomIn it) text in readInto (x .fault) (encode (placed (x .lines))) it
+
+-- the cause of a line's fault
+unfoldable pub causeOf : LineRead → ℕ
+causeOf (Good l left) = 0
+causeOf (Bad cause) = cause

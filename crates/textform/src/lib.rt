@@ -1,10 +1,16 @@
 // The text form of an itinerary: reading it, writing it, and listing an itinerary with what the sheet hides marked.
+use model::Rec;
 use model::Refusal;
 ghost use mathlib.Core.Path.{_≡_};
+ghost use Prim.Native.Nat.{_+_, _*_, _≤_};
 ghost use lib.Dec.{eqb};
+ghost use lib.ListN.{getD, length, set};
+ghost use Rattle.itinerary.specs.Written.{withRecord};
 ghost use Rattle.model.specs.Records.{byte};
 ghost use Rattle.model.specs.Validity.{labelIn};
-ghost use Rattle.textform.specs.Reading.{digit, ended, labelled, lineRead, named, numeral, numeralOf, spaces, starts, worded};
+ghost use Rattle.textform.specs.Lines.{splice};
+ghost use Rattle.textform.specs.Reading.{causeOf, digit, ended, labelled, lineRead, named, noneAbove, numeral, numeralOf, readAfter, readAnswer, recordOf, scan, scanAnswer, spaces, starts, worded};
+ghost use Rattle.textform.specs.Steps.{Placeable, scanned};
 
 // A line of the text form: how far it is indented, and the record's kind, label and name.
 pub struct Line {
@@ -216,4 +222,102 @@ fn read_line(s: &[u8], deepest: usize) -> LineRead
         return LineRead::Bad(3);
     }
     worded(depth, &s[n..])
+}
+
+// The cause of a line's fault, 0 where it has none.
+fn cause_of(got: LineRead) -> u8
+    ensures { λ r. ⌜ r ≡ causeOf got ⌝ }
+{
+    match got {
+        LineRead::Good(_, _) => 0,
+        LineRead::Bad(cause) => cause,
+    }
+}
+
+// Writes the record of line k + 1, under its parent, and has it stand above the lines one step deeper; inner.
+fn place(it: &mut [u8], above: &mut [u16], k: u16, line: Line)
+    requires { ⌜ Placeable (now it) (now above) k (line .depth) ⌝ }
+    ensures { λ _. ⌜ (now (it .exit) ≡ withRecord (now (it .entry)) (k + 1) (recordOf line (getD (now (above .entry)) (line .depth) 0)))
+        × (now (above .exit) ≡ set (now (above .entry)) (line .depth + 1) (k + 1)) ⌝ }
+{
+    let depth = line.depth;
+    let r = Rec {
+        kind: line.kind,
+        label: line.label,
+        name: line.name,
+        parent: above[depth],
+    };
+    itinerary::put_record(it, k + 1, r);
+    above[depth + 1] = k + 1;
+}
+
+// The records of the text's lines, as many as there is room for; inner. The bytes after them stay.
+fn scan(text: &[u8], it: &mut [u8], above: &mut [u16], room: u16) -> TextRead
+    requires { ⌜ (room ≤ 1024) × (8 * room ≤ length (now it)) × (now above ≡ noneAbove) ⌝ }
+    ensures { λ r. ⌜ (r ≡ scanAnswer (scan room (now (text .entry))))
+        × (now (it .exit) ≡ scanned (scan room (now (text .entry))) (now (it .entry))) ⌝ }
+{
+    let mut at: usize = 0;
+    let mut k: u16 = 0;
+    let mut deepest: usize = 0;
+    while at < text.len() {
+        if room <= k {
+            return TextRead::Fault {
+                line: k + 1,
+                cause: 1,
+            };
+        }
+        let got = read_line(&text[at..], deepest);
+        let LineRead::Good(line, left) = got else {
+            return TextRead::Fault {
+                line: k + 1,
+                cause: cause_of(got),
+            };
+        };
+        place(it, above, k, line);
+        at = text.len() - left;
+        deepest = line.depth + 1;
+        k += 1;
+    }
+    TextRead::Records(k)
+}
+
+// Puts bytes at a place, and answers the place after them; inner.
+fn put(text: &mut [u8], at: usize, word: &[u8]) -> usize
+    requires { ⌜ at + length (now word) ≤ length (now text) ⌝ }
+    ensures { λ r. ⌜ (r ≡ at + length (now (word .entry))) × (now (text .exit) ≡ splice at (now (word .entry)) (now (text .entry))) ⌝ }
+{
+    let mut i: usize = 0;
+    while i < word.len() {
+        text[at + i] = word[i];
+        i += 1;
+    }
+    at + word.len()
+}
+
+// Reads into scratch first, so that a fault leaves the itinerary as it was; inner.
+fn read_by(text: &[u8], it: &mut [u8], scratch: &mut [u8], above: &mut [u16]) -> TextRead
+    requires { ⌜ (length (now scratch) ≡ 8192) × (now above ≡ noneAbove) ⌝ }
+    ensures { λ r. ⌜ (r ≡ readAnswer (now (text .entry)) (now (it .entry)))
+        × (now (it .exit) ≡ readAfter (now (text .entry)) (now (it .entry))) ⌝ }
+{
+    let most = it.len() / 8;
+    let room = if most < 1024 { most as u16 } else { 1024 };
+    let got = scan(text, scratch, above, room);
+    let TextRead::Records(n) = got else {
+        return got;
+    };
+    put(it, 0, &scratch[..8 * (n as usize)]);
+    got
+}
+
+// Reads the text form: writes the records of its lines to the start of the itinerary's bytes, or leaves these as they
+// were and names the lowest line at fault, counted from 1, and its cause.
+pub fn read_text(text: &[u8], it: &mut [u8]) -> TextRead
+    ensures { λ r. ⌜ (r ≡ readAnswer (now (text .entry)) (now (it .entry)))
+        × (now (it .exit) ≡ readAfter (now (text .entry)) (now (it .entry))) ⌝ }
+{
+    let mut scratch = [0u8; 8192];
+    let mut above = [0u16; 1025];
+    read_by(text, it, &mut scratch, &mut above)
 }

@@ -200,7 +200,7 @@ module _ (s : List ℕ) (v : validity s ≡ pass) where
   written-nested = let w = walk-nested (records s) (valid-wf s v) (length (records s)) 0 0 in (w .0, rw length-map (omega (arith, w .1, length-records s, valid-count s v)))
 
   -- what is written is read, to its end
-  pub accepted : scan 1024 (textOf (records s)) ≡ record { lines = map (lineAt (records s)) (walk (records s)); cause = 0 }
+  pub accepted : scan 1024 (textOf (records s)) ≡ record { lines = map (lineAt (records s)) (walk (records s)); fault = none }
   unfolding scan textOf written-lines
   accepted = scan-render 1024 0 written-lines (written-nested .0) (written-nested .1)
 

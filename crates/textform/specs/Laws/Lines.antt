@@ -7,6 +7,7 @@ use lib.Seq.{drop-append-seam, drop-at}
 use mathlib.Core.Bool.{Bool, _&&_, false, true, true≢false}
 use mathlib.Core.List.{List, [], _++_, _∷_, append-assoc}
 use mathlib.Core.Logic.{_≢_}
+use mathlib.Core.Option.{none, some}
 use mathlib.Core.Path.{_∙_, _≡_, ap, refl, sym}
 use native.Mathlib.Decide.{decLe, ℕ-discrete}
 use native.Mathlib.Omega.{arith}
@@ -169,7 +170,7 @@ scan-good room d [] l left e = let u : _≡_ {A = ℕ} 0 1 = cc (empty-bad d) in
 scan-good room d (c ∷ s) l left e = rw (e, scanFrom)
 
 -- lines that are written are read back
-pub scan-render : (room d : ℕ) (ls : List Line) → Nested d ls → length ls ≤ room → scanFrom room d (render ls) ≡ record { lines = ls; cause = 0 }
+pub scan-render : (room d : ℕ) (ls : List Line) → Nested d ls → length ls ≤ room → scanFrom room d (render ls) ≡ record { lines = ls; fault = none }
 unfolding scanFrom render before
 scan-render zero d [] n h = refl
 scan-render (suc room) d [] n h = refl
@@ -257,7 +258,7 @@ line-good d s e =
     let g = got-past n s (worded-good (n / 2) _ (b .1)) in
     record { deep = omega (arith, g .deep, leb-true (n / 2) d (b .0)); right = g .right; fewer = g .fewer }
 
-pub scan-bad : (room d : ℕ) (s : List ℕ) (cause : ℕ) → s ≢ [] → lineRead d s ≡ Bad cause → scanFrom (suc room) d s ≡ record { lines = []; cause = cause }
+pub scan-bad : (room d : ℕ) (s : List ℕ) (cause : ℕ) → s ≢ [] → lineRead d s ≡ Bad cause → scanFrom (suc room) d s ≡ record { lines = []; fault = some cause }
 unfolding scanFrom
 scan-bad room d [] cause z e = absurd (z refl)
 scan-bad room d (c ∷ s) cause z e = rw (e, scanFrom)
