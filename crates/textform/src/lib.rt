@@ -2,7 +2,7 @@
 use model::Rec;
 use model::Refusal;
 ghost use mathlib.Core.Path.{_≡_};
-ghost use Prim.Native.Nat.{_+_, _*_, _≤_};
+ghost use Prim.Native.Nat.{_+_, _*_, _/_, _≤_, min};
 ghost use lib.Dec.{eqb};
 ghost use lib.ListN.{getD, length, set};
 ghost use Rattle.itinerary.specs.Written.{withRecord};
@@ -295,14 +295,24 @@ fn put(text: &mut [u8], at: usize, word: &[u8]) -> usize
     at + word.len()
 }
 
+// How many records bytes of a length have room for.
+fn room_in(len: usize) -> u16
+    ensures { λ r. ⌜ r ≡ min 1024 (len / 8) ⌝ }
+{
+    let most = len / 8;
+    if most < 1024 {
+        return most as u16;
+    }
+    1024
+}
+
 // Reads into scratch first, so that a fault leaves the itinerary as it was; inner.
 fn read_by(text: &[u8], it: &mut [u8], scratch: &mut [u8], above: &mut [u16]) -> TextRead
     requires { ⌜ (length (now scratch) ≡ 8192) × (now above ≡ noneAbove) ⌝ }
     ensures { λ r. ⌜ (r ≡ readAnswer (now (text .entry)) (now (it .entry)))
         × (now (it .exit) ≡ readAfter (now (text .entry)) (now (it .entry))) ⌝ }
 {
-    let most = it.len() / 8;
-    let room = if most < 1024 { most as u16 } else { 1024 };
+    let room = room_in(it.len());
     let got = scan(text, scratch, above, room);
     let TextRead::Records(n) = got else {
         return got;

@@ -1,7 +1,7 @@
 -- The reader's loop: k lines are read and their records written.
-use Prim.Native.Nat.{_*_, _+_, _-_, _<_, _≤_, suc, zero, ℕ}
-use lib.ListN.{drop, drop-of-length-le, getD, length, length-drop, length-set, set}
-use lib.Seq.{drop-drop, getD-drop}
+use Prim.Native.Nat.{_*_, _+_, _-_, _/_, _<_, _≤_, min, suc, zero, ℕ}
+use lib.ListN.{drop, drop-of-length-le, getD, length, length-drop, length-set, set, take}
+use lib.Seq.{drop-drop, getD-drop, take-all, take-at}
 use mathlib.Core.List.{List, [], _∷_}
 use mathlib.Core.Logic.{_≢_}
 use mathlib.Core.Option.{Option, none, some}
@@ -9,15 +9,19 @@ use mathlib.Core.Path.{_∙_, _≡_, ap, refl, sym}
 use native.Mathlib.Numerals.{add-one}
 use native.Mathlib.Omega.{arith}
 use Rattle.itinerary.specs.Written.{withRecord, written, written-length, written-next, written-none}
-use Rattle.model.specs.Records.{at, gone}
+use Rattle.model.specs.Laws.Bytes.{length-encode}
+use Rattle.model.specs.Records.{at, encode, gone}
 use Rattle.model.specs.declared.Rec.{Rec}
-use Rattle.textform.specs.Laws.Lines.{Got, line-good, scan-bad, scan-good}
+use Rattle.textform.specs.Laws.Lines.{Got, line-good, scan-bad, scan-good, scan-nested}
 use Rattle.textform.specs.Laws.Nesting.{length-placed, none-length}
-use Rattle.textform.specs.Reading.{Scan, before, causeOf, lineRead, noneAbove, placed, placedFrom, readBy, recordOf, scan, scanAnswer, scanFrom}
+use Rattle.textform.specs.Laws.Putting.{splice-over}
+use Rattle.textform.specs.Lines.{splice}
+use Rattle.textform.specs.Reading.{Scan, before, causeOf, lineRead, noneAbove, placed, placedFrom, readAfter, readAnswer, readBy, readInto, recordOf, roomIn, scan, scanAnswer, scanFrom}
 use Rattle.textform.specs.Steps.{scanned}
 use Rattle.textform.specs.declared.Line.{Line}
 use Rattle.textform.specs.declared.LineRead.{LineRead}
 use Rattle.textform.specs.declared.LineRead.the-variants.{Bad, Good}
+use Rattle.textform.specs.declared.TextRead.{TextRead}
 use Rattle.textform.specs.declared.TextRead.the-variants.{Fault, Records}
 
 -- the scan from place p on, after k lines
@@ -155,3 +159,58 @@ module _ {room : ℕ} {text it₀ it above : List ℕ} {p k deepest : ℕ} (w : 
           left = sym (drop-drop 1 k (placed (scan room text .lines))) ∙ ap (drop 1) placed-here ∙ rw (a, d, u);
           held = g;
         }
+
+-- what the answer tells of a scan
+answer-records : (x : Scan) (n : ℕ) → scanAnswer x ≡ Records n → (x .fault ≡ none) × (length (x .lines) ≡ n)
+unfolding scanAnswer readBy
+answer-records x n e = go (x .fault) refl
+  where
+    go : (f : Option ℕ) → x .fault ≡ f → (x .fault ≡ none) × (length (x .lines) ≡ n)
+    go none q = let u : Records (length (x .lines)) ≡ Records n = rw q at e in let v : length (x .lines) ≡ n = cc in (q, v)
+    go (some c) q = let u : Fault (suc (length (x .lines))) c ≡ Records n = rw q at e in let v : _≡_ {A = ℕ} 0 1 = cc in absurd (omega arith)
+
+answer-fault : (x : Scan) (l c : ℕ) (b it : List ℕ) → scanAnswer x ≡ Fault l c → it ≡ readInto (x .fault) b it
+unfolding scanAnswer readBy readInto
+answer-fault x l c b it e = go (x .fault) refl
+  where
+    go : (f : Option ℕ) → x .fault ≡ f → it ≡ readInto (x .fault) b it
+    go none q = let u : Records (length (x .lines)) ≡ Fault l c = rw q at e in let v : _≡_ {A = ℕ} 0 1 = cc in absurd (omega arith)
+    go (some d) q = rw q
+
+module _ (text it scratch : List ℕ) (room : ℕ) (got : TextRead) (m : room ≡ min 1024 (length it / 8)) (a : got ≡ scanAnswer (scan room text)) where
+  same-room : scan room text ≡ scan (roomIn it) text
+  unfolding roomIn
+  same-room = ap (λ r. scan r text) m
+
+  same-answer : got ≡ readAnswer text it
+  unfolding readAnswer
+  same-answer = a ∙ ap scanAnswer same-room
+
+  pub read-fault : {l c : ℕ} → got ≡ Fault l c → (got ≡ readAnswer text it) × (it ≡ readAfter text it)
+  unfolding readAfter
+  read-fault {l} {c} e = (same-answer, rw (← same-room) (answer-fault (scan room text) l c _ it (sym a ∙ e)))
+
+  module _ (n : ℕ) (e : got ≡ Records n) (long : length scratch ≡ 8192) where
+    whole : (scan room text .fault ≡ none) × (length (scan room text .lines) ≡ n)
+    whole = answer-records (scan room text) n (sym a ∙ e)
+
+    pub read-few : 8 * n ≤ length it
+    unfolding scan
+    read-few = omega (arith, scan-nested room 0 text .1, whole .1)
+
+    pub read-fits : 8 * n ≤ 8192
+    unfolding scan
+    read-fits = omega (arith, scan-nested room 0 text .1, whole .1)
+
+    head : take (8 * n) (scanned (scan room text) scratch) ≡ encode (placed (scan room text .lines))
+    unfolding scanned written
+    head =
+        let ls = scan room text .lines in
+        let k : length (placed (scan room text .lines)) ≤ length (scan room text .lines) = omega (arith, length-all (scan room text .lines)) in
+        let u : length (encode (placed (scan room text .lines))) ≡ 8 * n = length-encode _ ∙ omega (arith, length-all (scan room text .lines), whole .1) in
+        rw (take-all (length (scan room text .lines)) (placed (scan room text .lines)) k) (take-at (encode (placed (scan room text .lines))) _ (8 * n) u)
+
+    pub read-records : (scratch′ it′ : List ℕ) → scratch′ ≡ scanned (scan room text) scratch → it′ ≡ splice 0 (take (8 * n) scratch′) it → (Records n ≡ readAnswer text it) × (it′ ≡ readAfter text it)
+    unfolding readAfter readInto
+    read-records scratch′ it′ p q =
+        (sym e ∙ same-answer, q ∙ ap (λ x. splice 0 x it) (ap (take (8 * n)) p ∙ head) ∙ splice-over _ it ∙ rw (← same-room) (rw (whole .0)))
