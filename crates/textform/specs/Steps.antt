@@ -1,9 +1,19 @@
 -- What the inner contracts cite.
 use Prim.Native.Nat.{_*_, _+_, _<_, _≤_, ℕ}
+use lib.Dec.{eqb}
 use lib.ListN.{length}
-use mathlib.Core.List.{List}
+use mathlib.Core.Bool.{Bool, _&&_, false, true}
+use mathlib.Core.List.{List, [], _++_, _∷_}
+use mathlib.Core.Path.{_≡_}
 use Rattle.itinerary.specs.Written.{written}
+use Rattle.model.specs.Listing.{digitsIn, field}
+use Rattle.model.specs.Records.{at}
+use Rattle.model.specs.declared.Rec.{Rec}
+use Rattle.textform.specs.Lines.{entry, kindWord, splice}
 use Rattle.textform.specs.Reading.{Scan, placed}
+use Rattle.textform.specs.Writing.{lineAt, mark}
+use Rattle.textform.specs.declared.Line.{Line}
+use Rattle.textform.specs.declared.Visit.{Visit}
 
 -- there is room for record k + 1, and for one more entry above
 pub record Placeable (it above : List ℕ) (k depth : ℕ) : Type 0 where
@@ -14,3 +24,21 @@ pub record Placeable (it above : List ℕ) (k depth : ℕ) : Type 0 where
 -- the bytes after a scan wrote the records of its lines over them
 unfoldable pub scanned : Scan → List ℕ → List ℕ
 scanned x it = written (placed (x .lines)) (length (x .lines)) it
+
+-- t′ is t with w put at place p, and e is the place after it
+pub record Put (t : List ℕ) (p : ℕ) (w t′ : List ℕ) (e : ℕ) : Type 0 where
+  pub end : e ≡ p + length w
+  pub bytes : t′ ≡ splice p w t
+
+-- what stands before the word in a line of the listing: the record's number
+unfoldable pub front : Bool → ℕ → List ℕ
+front true number = field number []
+front false number = []
+
+-- a line's kind, label and name
+unfoldable pub fields : Line → List ℕ
+fields l = kindWord (l .kind) ++ field (l .label) (digitsIn 5 (l .name))
+
+-- the line of a record, in a listing or not; hidden where it is gone among those shown
+unfoldable pub visitLine : Bool → List Rec → List Rec → Visit → List ℕ
+visitLine listed its shown v = entry (front listed (v .number)) (mark (listed && eqb (at shown (v .number) .kind) 0)) (lineAt its v)

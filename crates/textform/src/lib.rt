@@ -4,13 +4,16 @@ use model::Refusal;
 ghost use mathlib.Core.Path.{_≡_};
 ghost use Prim.Native.Nat.{_+_, _*_, _/_, _≤_, min};
 ghost use lib.Dec.{eqb};
-ghost use lib.ListN.{getD, length, set};
+ghost use lib.ListN.{getD, length, replicate, set};
+ghost use mathlib.Core.List.{[], _∷_};
 ghost use Rattle.itinerary.specs.Written.{withRecord};
+ghost use Rattle.model.specs.Listing.{digitsIn};
 ghost use Rattle.model.specs.Records.{byte};
 ghost use Rattle.model.specs.Validity.{labelIn};
-ghost use Rattle.textform.specs.Lines.{splice};
+ghost use Rattle.textform.specs.Lines.{entry, kindWord};
 ghost use Rattle.textform.specs.Reading.{causeOf, digit, ended, labelled, lineRead, named, noneAbove, numeral, numeralOf, readAfter, readAnswer, recordOf, scan, scanAnswer, spaces, starts, worded};
-ghost use Rattle.textform.specs.Steps.{Placeable, scanned};
+ghost use Rattle.textform.specs.Steps.{Placeable, Put, fields, front, scanned};
+ghost use Rattle.textform.specs.Writing.{mark};
 
 // A line of the text form: how far it is indented, and the record's kind, label and name.
 pub struct Line {
@@ -285,7 +288,7 @@ fn scan(text: &[u8], it: &mut [u8], above: &mut [u16], room: u16) -> TextRead
 // Puts bytes at a place, and answers the place after them; inner.
 fn put(text: &mut [u8], at: usize, word: &[u8]) -> usize
     requires { ⌜ at + length (now word) ≤ length (now text) ⌝ }
-    ensures { λ r. ⌜ (r ≡ at + length (now (word .entry))) × (now (text .exit) ≡ splice at (now (word .entry)) (now (text .entry))) ⌝ }
+    ensures { λ r. ⌜ Put (now (text .entry)) at (now (word .entry)) (now (text .exit)) r ⌝ }
 {
     let mut i: usize = 0;
     while i < word.len() {
@@ -330,4 +333,105 @@ pub fn read_text(text: &[u8], it: &mut [u8]) -> TextRead
     let mut scratch = [0u8; 8192];
     let mut above = [0u16; 1025];
     read_by(text, it, &mut scratch, &mut above)
+}
+
+// Puts one byte; inner.
+fn put_byte(text: &mut [u8], at: usize, b: u8) -> usize
+    requires { ⌜ at + 1 ≤ length (now text) ⌝ }
+    ensures { λ r. ⌜ Put (now (text .entry)) at (b ∷ []) (now (text .exit)) r ⌝ }
+{
+    text[at] = b;
+    at + 1
+}
+
+// Puts n spaces; inner.
+fn put_spaces(text: &mut [u8], at: usize, n: usize) -> usize
+    requires { ⌜ at + n ≤ length (now text) ⌝ }
+    ensures { λ r. ⌜ Put (now (text .entry)) at (replicate n 32) (now (text .exit)) r ⌝ }
+{
+    let mut i: usize = 0;
+    while i < n {
+        text[at + i] = 32;
+        i += 1;
+    }
+    at + n
+}
+
+// Puts a number's digits; inner.
+fn put_number(text: &mut [u8], at: usize, n: u16) -> usize
+    requires { ⌜ at + length (digitsIn 5 n) ≤ length (now text) ⌝ }
+    ensures { λ r. ⌜ Put (now (text .entry)) at (digitsIn 5 n) (now (text .exit)) r ⌝ }
+{
+    if n <= 9 {
+        return put_byte(text, at, (48 + n) as u8);
+    }
+    let last = put_number(text, at, n / 10);
+    put_byte(text, last, (48 + n % 10) as u8)
+}
+
+// Puts a kind's word; inner.
+fn put_kind(text: &mut [u8], at: usize, kind: u8) -> usize
+    requires { ⌜ at + length (kindWord kind) ≤ length (now text) ⌝ }
+    ensures { λ r. ⌜ Put (now (text .entry)) at (kindWord kind) (now (text .exit)) r ⌝ }
+{
+    if kind == 1 {
+        return put(text, at, b"ambient ");
+    }
+    if kind == 2 {
+        return put(text, at, b"in ");
+    }
+    if kind == 3 {
+        return put(text, at, b"out ");
+    }
+    if kind == 4 {
+        return put(text, at, b"open ");
+    }
+    at
+}
+
+// Puts a record's number and a space before its line of a listing; inner.
+fn put_front(text: &mut [u8], at: usize, listed: bool, number: u16) -> usize
+    requires { ⌜ at + length (front listed number) ≤ length (now text) ⌝ }
+    ensures { λ r. ⌜ Put (now (text .entry)) at (front listed number) (now (text .exit)) r ⌝ }
+{
+    if listed {
+        let end = put_number(text, at, number);
+        return put_byte(text, end, 32);
+    }
+    at
+}
+
+// Puts a line's kind, label and name; inner.
+fn put_fields(text: &mut [u8], at: usize, line: Line) -> usize
+    requires { ⌜ at + length (fields line) ≤ length (now text) ⌝ }
+    ensures { λ r. ⌜ Put (now (text .entry)) at (fields line) (now (text .exit)) r ⌝ }
+{
+    let label = put_kind(text, at, line.kind);
+    let space = put_number(text, label, line.label as u16);
+    let name = put_byte(text, space, 32);
+    put_number(text, name, line.name as u16)
+}
+
+// Puts the mark of a hidden record; inner.
+fn put_mark(text: &mut [u8], at: usize, hidden: bool) -> usize
+    requires { ⌜ at + length (mark hidden) ≤ length (now text) ⌝ }
+    ensures { λ r. ⌜ Put (now (text .entry)) at (mark hidden) (now (text .exit)) r ⌝ }
+{
+    if hidden {
+        return put(text, at, b" hidden");
+    }
+    at
+}
+
+// Puts a line; inner.
+fn put_entry(text: &mut [u8], at: usize, listed: bool, number: u16, hidden: bool, line: Line) -> usize
+    requires { ⌜ (line .depth ≤ 1024) × (at + length (entry (front listed number) (mark hidden) line) ≤ length (now text)) ⌝ }
+    ensures { λ r. ⌜ Put (now (text .entry)) at (entry (front listed number) (mark hidden) line) (now (text .exit)) r ⌝ }
+{
+    let depth = line.depth;
+    let first = put_spaces(text, at, 2 * depth);
+    let word = put_front(text, first, listed, number);
+    let back = put_fields(text, word, line);
+    let end = put_mark(text, back, hidden);
+    put_byte(text, end, 10)
 }

@@ -42,7 +42,7 @@ same-length : tie.Need-same-length Inv-loop μ-loop
 same-length c = c .before .loop .inv .2
 
 returns : tie.Need-returns Inv-loop μ-loop
-returns c = (refl, c .before .loop .inv .1 ∙ put-all _ _ _ _ (c .loop-test .left))
+returns c = record { end = refl; bytes = c .before .loop .inv .1 ∙ put-all _ _ _ _ (c .loop-test .left) }
 
 pub put-spec : {M : Type 1} → statement M
 put-spec =

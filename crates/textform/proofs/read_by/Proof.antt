@@ -54,7 +54,7 @@ same-length-5 : tie.Need-same-length-5
 same-length-5 c = search needs
 
 returns-2 : tie.Need-returns-2
-returns-2 c = read-records (c .before .before .before .before .before .before .before .before .before .before .before .before .before .before .before .before .before .before .before .before .args .text .now) (c .before .before .before .before .before .before .before .before .before .before .before .before .before .before .before .before .before .before .before .before .args .it .now) (c .before .before .before .before .before .before .before .before .before .before .before .before .before .before .before .before .before .before .before .before .args .scratch .now) (c .before .before .before .before .before .before .before .before .before .before .before .before .before .before .before .room-in .result) (c .before .before .before .before .before .before .before .before .before .before .before .before .scan .result) (c .before .before .before .before .before .before .before .before .before .before .before .before .before .before .before .room-in .ensures) (c .before .before .before .before .before .before .before .before .before .before .before .before .scan .ensures .0) _ (c .before .before .before .before .before .before .got .given .1) (c .before .before .before .before .before .before .before .before .before .before .before .before .before .before .before .before .before .before .before .before .pre .0) _ _ (c .before .before .before .before .before .before .before .before .before .before .before .before .scan .ensures .1) (c .before .before .put .ensures .1)
+returns-2 c = read-records (c .before .before .before .before .before .before .before .before .before .before .before .before .before .before .before .before .before .before .before .before .args .text .now) (c .before .before .before .before .before .before .before .before .before .before .before .before .before .before .before .before .before .before .before .before .args .it .now) (c .before .before .before .before .before .before .before .before .before .before .before .before .before .before .before .before .before .before .before .before .args .scratch .now) (c .before .before .before .before .before .before .before .before .before .before .before .before .before .before .before .room-in .result) (c .before .before .before .before .before .before .before .before .before .before .before .before .scan .result) (c .before .before .before .before .before .before .before .before .before .before .before .before .before .before .before .room-in .ensures) (c .before .before .before .before .before .before .before .before .before .before .before .before .scan .ensures .0) _ (c .before .before .before .before .before .before .got .given .1) (c .before .before .before .before .before .before .before .before .before .before .before .before .before .before .before .before .before .before .before .before .pre .0) _ _ (c .before .before .before .before .before .before .before .before .before .before .before .before .scan .ensures .1) (c .before .before .put .ensures .bytes)
 
 pub read-by-spec : {M : Type 1} → statement M
 read-by-spec =

@@ -24,11 +24,11 @@ use Rattle.textform.specs.declared.LineRead.the-variants.{Bad, Good}
 use Rattle.textform.specs.declared.Decimal.{Decimal}
 
 -- the digits of a number, by how many there are
-digits-low : (k n : ℕ) → n ≤ 9 → digitsIn (suc k) n ≡ (48 + n) ∷ []
+pub digits-low : (k n : ℕ) → n ≤ 9 → digitsIn (suc k) n ≡ (48 + n) ∷ []
 unfolding digitsIn
 digits-low k n h = rw (le-leb n 9 h, digitsIn)
 
-digits-high : (k n : ℕ) → 9 < n → digitsIn (suc k) n ≡ digitsIn k (n / 10) ++ ((48 + n % 10) ∷ [])
+pub digits-high : (k n : ℕ) → 9 < n → digitsIn (suc k) n ≡ digitsIn k (n / 10) ++ ((48 + n % 10) ∷ [])
 unfolding digitsIn
 digits-high k n h = rw (lt-leb n 9 h, digitsIn)
 
