@@ -5,3 +5,4 @@ pub mod Identity
 pub mod Scanning
 pub mod Placing
 pub mod Putting
+pub mod Walking

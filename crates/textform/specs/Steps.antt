@@ -1,6 +1,6 @@
 -- What the inner contracts cite.
-use Prim.Native.Nat.{_*_, _+_, _<_, _≤_, ℕ}
-use lib.Dec.{eqb}
+use Prim.Native.Nat.{_%_, _*_, _+_, _<_, _≤_, ℕ}
+use lib.Dec.{eqb, leb}
 use lib.ListN.{length}
 use mathlib.Core.Bool.{Bool, _&&_, false, true}
 use mathlib.Core.List.{List, [], _++_, _∷_}
@@ -11,8 +11,9 @@ use Rattle.model.specs.Records.{at}
 use Rattle.model.specs.declared.Rec.{Rec}
 use Rattle.textform.specs.Lines.{entry, kindWord, splice}
 use Rattle.textform.specs.Reading.{Scan, placed}
-use Rattle.textform.specs.Writing.{lineAt, mark}
+use Rattle.textform.specs.Writing.{fits, lineAt, mark, overIf}
 use Rattle.textform.specs.declared.Line.{Line}
+use Rattle.textform.specs.declared.TextWritten.{TextWritten}
 use Rattle.textform.specs.declared.Visit.{Visit}
 
 -- there is room for record k + 1, and for one more entry above
@@ -42,3 +43,13 @@ fields l = kindWord (l .kind) ++ field (l .label) (digitsIn 5 (l .name))
 -- the line of a record, in a listing or not; hidden where it is gone among those shown
 unfoldable pub visitLine : Bool → List Rec → List Rec → Visit → List ℕ
 visitLine listed its shown v = entry (front listed (v .number)) (mark (listed && eqb (at shown (v .number) .kind) 0)) (lineAt its v)
+
+-- whole records, at most 1,024 of them
+pub record Bench (s : List ℕ) : Type 0 where
+  pub whole : length s % 8 ≡ 0
+  pub few : length s ≤ 8192
+
+-- what a writer of w into t answers and leaves
+pub record Written (w t t′ : List ℕ) (r : TextWritten) : Type 0 where
+  pub answer : r ≡ fits (leb (length w) (length t)) w
+  pub bytes : t′ ≡ overIf (leb (length w) (length t)) w t

@@ -1,6 +1,7 @@
 // The text form of an itinerary: reading it, writing it, and listing an itinerary with what the sheet hides marked.
 use model::Rec;
 use model::Refusal;
+use model::Validated;
 ghost use mathlib.Core.Path.{_≡_};
 ghost use Prim.Native.Nat.{_+_, _*_, _/_, _≤_, min};
 ghost use lib.Dec.{eqb};
@@ -8,12 +9,12 @@ ghost use lib.ListN.{getD, length, replicate, set};
 ghost use mathlib.Core.List.{[], _∷_};
 ghost use Rattle.itinerary.specs.Written.{withRecord};
 ghost use Rattle.model.specs.Listing.{digitsIn};
-ghost use Rattle.model.specs.Records.{byte};
+ghost use Rattle.model.specs.Records.{byte, records};
 ghost use Rattle.model.specs.Validity.{labelIn};
-ghost use Rattle.textform.specs.Lines.{entry, kindWord};
+ghost use Rattle.textform.specs.Lines.{entry, kindWord, over};
 ghost use Rattle.textform.specs.Reading.{causeOf, digit, ended, labelled, lineRead, named, noneAbove, numeral, numeralOf, readAfter, readAnswer, recordOf, scan, scanAnswer, spaces, starts, worded};
-ghost use Rattle.textform.specs.Steps.{Placeable, Put, fields, front, scanned};
-ghost use Rattle.textform.specs.Writing.{mark};
+ghost use Rattle.textform.specs.Steps.{Bench, Placeable, Put, Written, fields, front, scanned, visitLine};
+ghost use Rattle.textform.specs.Writing.{childAfter, linesOf, mark, nextFrom, walk, writeAfter, writeAnswer};
 
 // A line of the text form: how far it is indented, and the record's kind, label and name.
 pub struct Line {
@@ -434,4 +435,134 @@ fn put_entry(text: &mut [u8], at: usize, listed: bool, number: u16, hidden: bool
     let back = put_fields(text, word, line);
     let end = put_mark(text, back, hidden);
     put_byte(text, end, 10)
+}
+
+// The lowest child of p with a number over after, 0 where there is none; inner.
+fn child_after(it: &[u8], p: u16, after: u16) -> u16
+    requires { ⌜ Bench (now it) ⌝ }
+    ensures { λ r. ⌜ r ≡ childAfter (records (now (it .entry))) p after ⌝ }
+{
+    let n = (it.len() / 8) as u16;
+    let mut j = after;
+    while j < n {
+        let r = itinerary::record_at(it, j + 1);
+        if (r.kind != 0) & (r.parent == p) {
+            return j + 1;
+        }
+        j += 1;
+    }
+    0
+}
+
+// The record to visit after record p, whose children stand at depth d; inner.
+fn next(it: &[u8], p: u16, d: usize) -> Visit
+    requires { ⌜ Bench (now it) ⌝ }
+    ensures { λ v. ⌜ v ≡ nextFrom (records (now (it .entry))) d p 0 ⌝ }
+{
+    let mut q = p;
+    let mut after: u16 = 0;
+    let mut e = d;
+    while 0 < e {
+        let j = child_after(it, q, after);
+        if j != 0 {
+            return Visit {
+                number: j,
+                depth: e,
+            };
+        }
+        let r = itinerary::record_at(it, q);
+        after = q;
+        q = r.parent;
+        e -= 1;
+    }
+    Visit {
+        number: child_after(it, q, after),
+        depth: 0,
+    }
+}
+
+// Puts the line of a record that is visited; inner. In a listing it is marked where the sheet hides it.
+fn put_visit(text: &mut [u8], at: usize, it: &[u8], sheet: &[u8], listed: bool, v: Visit) -> usize
+    requires { ⌜ (Bench (now it)) × (Bench (now sheet)) × (v .depth ≤ 1024)
+        × (at + length (visitLine listed (records (now it)) (records (now sheet)) v) ≤ length (now text)) ⌝ }
+    ensures { λ r. ⌜ Put (now (text .entry)) at (visitLine listed (records (now (it .entry))) (records (now (sheet .entry))) v) (now (text .exit)) r ⌝ }
+{
+    let number = v.number;
+    let r = itinerary::record_at(it, number);
+    let s = itinerary::record_at(sheet, number);
+    let line = Line {
+        depth: v.depth,
+        kind: r.kind,
+        label: r.label,
+        name: r.name,
+    };
+    put_entry(text, at, listed, number, listed & (s.kind == 0), line)
+}
+
+// How long the text of an itinerary is, line by line; inner.
+fn measure(it: &[u8], sheet: &[u8], listed: bool, line: &mut [u8]) -> usize
+    requires { ⌜ (Bench (now it)) × (Bench (now sheet)) × (length (now line) ≡ 2100) ⌝ }
+    ensures { λ r. ⌜ r ≡ length (linesOf (visitLine listed (records (now (it .entry))) (records (now (sheet .entry)))) (walk (records (now (it .entry))))) ⌝ }
+{
+    let mut left = (it.len() / 8) as u16;
+    let mut p: u16 = 0;
+    let mut d: usize = 0;
+    let mut used: usize = 0;
+    while 0 < left {
+        let v = next(it, p, d);
+        if v.number == 0 {
+            return used;
+        }
+        used += put_visit(line, 0, it, sheet, listed, v);
+        p = v.number;
+        d = v.depth + 1;
+        left -= 1;
+    }
+    used
+}
+
+// Writes the text of an itinerary, line by line; inner.
+fn fill(it: &[u8], sheet: &[u8], listed: bool, text: &mut [u8])
+    requires { ⌜ (Bench (now it)) × (Bench (now sheet))
+        × (length (linesOf (visitLine listed (records (now it)) (records (now sheet))) (walk (records (now it)))) ≤ length (now text)) ⌝ }
+    ensures { λ _. ⌜ now (text .exit) ≡ over (linesOf (visitLine listed (records (now (it .entry))) (records (now (sheet .entry)))) (walk (records (now (it .entry))))) (now (text .entry)) ⌝ }
+{
+    let mut left = (it.len() / 8) as u16;
+    let mut p: u16 = 0;
+    let mut d: usize = 0;
+    let mut at: usize = 0;
+    while 0 < left {
+        let v = next(it, p, d);
+        if v.number == 0 {
+            return;
+        }
+        at = put_visit(text, at, it, sheet, listed, v);
+        p = v.number;
+        d = v.depth + 1;
+        left -= 1;
+    }
+}
+
+// Writes the text where there is room for it; inner.
+fn write_by(it: &[u8], sheet: &[u8], listed: bool, text: &mut [u8]) -> TextWritten
+    requires { ⌜ (Bench (now it)) × (Bench (now sheet)) ⌝ }
+    ensures { λ r. ⌜ Written (linesOf (visitLine listed (records (now (it .entry))) (records (now (sheet .entry)))) (walk (records (now (it .entry))))) (now (text .entry)) (now (text .exit)) r ⌝ }
+{
+    let mut line = [0u8; 2100];
+    let n = measure(it, sheet, listed, &mut line);
+    if text.len() < n {
+        return TextWritten::NoRoom(n);
+    }
+    fill(it, sheet, listed, text);
+    TextWritten::Length(n)
+}
+
+// Writes the text form of an itinerary after refusals 1 to 6; a text with no room for it stays as it was.
+pub fn write_text(it: &[u8], text: &mut [u8]) -> TextWritten
+    ensures { λ r. ⌜ (r ≡ writeAnswer (now (it .entry)) (now (text .entry))) × (now (text .exit) ≡ writeAfter (now (it .entry)) (now (text .entry))) ⌝ }
+{
+    match itinerary::validate(it) {
+        Validated::Refused(r) => TextWritten::Refused(r),
+        Validated::Done(_) => write_by(it, it, false, text),
+    }
 }
