@@ -1,63 +1,52 @@
+-- `textform::fill` meets its contract. The loop's invariant: the lines before are written.
+use native.Mathlib.Omega.{arith}
+use Rattle.model.specs.Records.{at, records}
+use Rattle.textform.specs.Laws.Walking.{Filling, fill-end, fill-on, fill-room, fill-start, fill-stop, visit-deep}
+use Rattle.textform.specs.Steps.{visitLine}
 use Rattle.textform.proofs.fill.Statement.{statement}
 use Rattle.textform.proofs.fill.Tie as tie
-use Rattle.textform.proofs.fill.Reads as reads
-use Rattle.textform.proofs.fill.Lts as lts
-use Rattle.textform.proofs.next.Reads as next-reads
-use Rattle.textform.proofs.put_visit.Reads as put-visit-reads
 
 abbrev Inv-loop : tie.InvT-loop
-Inv-loop it sheet listed text₀ left₀ p₀ d₀ at₀ text left p d at = ?
+Inv-loop it sheet listed text₀ left₀ p₀ d₀ at₀ text left p d at = Filling (visitLine listed (records it) (records sheet)) (records it) text₀ text left p d at
 
 abbrev μ-loop : tie.MeasureT-loop
-μ-loop it sheet listed text₀ left₀ p₀ d₀ at₀ text left p d at = ?
+μ-loop it sheet listed text₀ left₀ p₀ d₀ at₀ text left p d at = left
 
--- src/lib.rt:530:20
 cast-left : tie.Need-cast-left Inv-loop μ-loop
-cast-left c = ?
+cast-left c = record { fits = omega (arith, c .before .before .before .pre .0 .few) }
 
--- src/lib.rt:534:5
 loop-holds : tie.Need-loop-holds Inv-loop μ-loop
-loop-holds c = ?
+loop-holds c = fill-start _ _ (c .before .before .before .pre .0) _ (c .before .before .before .pre .2)
 
--- src/lib.rt:535:13
 next-requires : tie.Need-next-requires Inv-loop μ-loop
-next-requires c κs = ?
+next-requires c κs = c .before .before .before .before .before .pre .0
 
--- src/lib.rt:537:13
 same-length : tie.Need-same-length Inv-loop μ-loop
-same-length c = ?
+same-length c = c .before .before .before .before .loop .inv .sized
 
--- src/lib.rt:537:13
 returns : tie.Need-returns Inv-loop μ-loop
-returns c = ?
+returns c = fill-stop _ _ _ _ _ (c .before .before .next .result) (c .before .before .next .ensures) (c .before .before .before .before .loop .inv) (c .if1 .taken)
 
--- src/lib.rt:539:9
 put-visit-requires : tie.Need-put-visit-requires Inv-loop μ-loop
-put-visit-requires c κs = ?
+put-visit-requires c κs = (c .before .before .before .before .before .before .before .before .before .pre .0, c .before .before .before .before .before .before .before .before .before .pre .1, omega (arith, visit-deep _ (c .before .before .before .before .before .loop .left) _ _ (c .before .before .before .next .result) (c .before .before .before .next .ensures), c .before .before .before .before .before .loop .inv .shallow), fill-room _ _ _ _ _ (c .before .before .before .next .result) (c .before .before .before .next .ensures) (c .before .before .before .before .before .loop .inv) (c .before .before .before .before .loop-test .taken) (c .before .if1 .left))
 
--- src/lib.rt:541:13
 add-d : tie.Need-add-d Inv-loop μ-loop
-add-d c = ?
+add-d c = omega (arith, visit-deep _ (c .before .before .before .before .before .before .before .before .before .loop .left) _ _ (c .before .before .before .before .before .before .before .next .result) (c .before .before .before .before .before .before .before .next .ensures), c .before .before .before .before .before .before .before .before .before .loop .inv .shallow)
 
--- src/lib.rt:542:9
 sub-left : tie.Need-sub-left Inv-loop μ-loop
-sub-left c = ?
+sub-left c = omega arith
 
--- src/lib.rt:534:5
 loop-less : tie.Need-loop-less Inv-loop μ-loop
-loop-less c = ?
+loop-less c = omega arith
 
--- src/lib.rt:534:5
 loop-again : tie.Need-loop-again Inv-loop μ-loop
-loop-again c = ?
+loop-again c = fill-on _ _ _ _ _ (c .before .before .before .before .before .before .before .next .result) (c .before .before .before .before .before .before .before .next .ensures) (c .before .before .before .before .before .before .before .before .before .loop .inv) (c .before .before .before .before .before .before .before .before .loop-test .taken) (c .before .before .before .before .before .if1 .left) (c .before .before .before .put-visit .kept .0) (c .before .before .before .put-visit .ensures)
 
--- src/lib.rt:525:1
 same-length-2 : tie.Need-same-length-2 Inv-loop μ-loop
-same-length-2 c = ?
+same-length-2 c = c .before .loop .inv .sized
 
--- src/lib.rt:525:1
 returns-2 : tie.Need-returns-2 Inv-loop μ-loop
-returns-2 c = ?
+returns-2 c = fill-end _ _ _ _ _ (c .loop-test .left) (c .before .loop .inv)
 
 pub fill-spec : {M : Type 1} → statement M
 fill-spec =

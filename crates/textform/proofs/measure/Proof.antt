@@ -1,67 +1,57 @@
+-- `textform::measure` meets its contract. The loop's invariant: the lines before are counted.
+use lib.ListN.{length}
+use mathlib.Core.Path.{_∙_, _≡_, sym}
+use native.Mathlib.Omega.{arith}
+use Rattle.model.specs.Records.{records}
+use Rattle.textform.specs.Laws.Walking.{Measured, measure-end, measure-on, measure-start, measure-stop, visit-deep, visit-short}
+use Rattle.textform.specs.Steps.{visitLine}
 use Rattle.textform.proofs.measure.Statement.{statement}
 use Rattle.textform.proofs.measure.Tie as tie
-use Rattle.textform.proofs.measure.Reads as reads
-use Rattle.textform.proofs.measure.Lts as lts
-use Rattle.textform.proofs.next.Reads as next-reads
-use Rattle.textform.proofs.put_visit.Reads as put-visit-reads
 
 abbrev Inv-loop : tie.InvT-loop
-Inv-loop it sheet listed line₀ left₀ p₀ d₀ used₀ line left p d used = ?
+Inv-loop it sheet listed line₀ left₀ p₀ d₀ used₀ line left p d used = (Measured (visitLine listed (records it) (records sheet)) (records it) left p d used) × (length line ≡ 2100)
 
 abbrev μ-loop : tie.MeasureT-loop
-μ-loop it sheet listed line₀ left₀ p₀ d₀ used₀ line left p d used = ?
+μ-loop it sheet listed line₀ left₀ p₀ d₀ used₀ line left p d used = left
 
--- src/lib.rt:507:20
 cast-left : tie.Need-cast-left Inv-loop μ-loop
-cast-left c = ?
+cast-left c = record { fits = omega (arith, c .before .before .before .pre .0 .few) }
 
--- src/lib.rt:511:5
 loop-holds : tie.Need-loop-holds Inv-loop μ-loop
-loop-holds c = ?
+loop-holds c = (measure-start _ _ (c .before .before .before .pre .0), c .before .before .before .pre .2)
 
--- src/lib.rt:512:13
 next-requires : tie.Need-next-requires Inv-loop μ-loop
-next-requires c κs = ?
+next-requires c κs = c .before .before .before .before .before .pre .0
 
--- src/lib.rt:514:13
 same-length : tie.Need-same-length Inv-loop μ-loop
-same-length c = ?
+same-length c = c .before .before .before .before .loop .inv .1 ∙ sym (c .before .before .before .before .before .before .before .before .pre .2)
 
--- src/lib.rt:514:13
 returns : tie.Need-returns Inv-loop μ-loop
-returns c = ?
+returns c = measure-stop _ _ _ _ _ (c .before .before .next .result) (c .before .before .next .ensures) _ (c .before .before .before .before .loop .inv .0) (c .if1 .taken)
 
--- src/lib.rt:516:17
 put-visit-requires : tie.Need-put-visit-requires Inv-loop μ-loop
-put-visit-requires c κs = ?
+put-visit-requires c κs = (c .before .before .before .before .before .before .before .before .before .pre .0, c .before .before .before .before .before .before .before .before .before .pre .1, omega (arith, visit-deep _ (c .before .before .before .before .before .loop .left) _ _ (c .before .before .before .next .result) (c .before .before .before .next .ensures), c .before .before .before .before .before .loop .inv .0 .shallow), omega (arith, c .before .before .before .before .before .loop .inv .1, visit-short (c .before .before .before .before .before .before .before .before .before .args .listed) (records (c .before .before .before .before .before .before .before .before .before .args .it .now)) (records (c .before .before .before .before .before .before .before .before .before .args .sheet .now)) (c .before .before .before .next .result) (omega (arith, visit-deep _ (c .before .before .before .before .before .loop .left) _ _ (c .before .before .before .next .result) (c .before .before .before .next .ensures), c .before .before .before .before .before .loop .inv .0 .shallow))))
 
--- src/lib.rt:516:9
 add-used : tie.Need-add-used Inv-loop μ-loop
-add-used c = ?
+add-used c = omega (arith, c .before .before .before .before .before .before .before .before .loop .inv .0 .small, c .before .before .put-visit .ensures .end, (visit-short (c .before .before .before .before .before .before .before .before .before .before .before .before .args .listed) (records (c .before .before .before .before .before .before .before .before .before .before .before .before .args .it .now)) (records (c .before .before .before .before .before .before .before .before .before .before .before .before .args .sheet .now)) (c .before .before .before .before .before .before .next .result) (omega (arith, visit-deep _ (c .before .before .before .before .before .before .before .before .loop .left) _ _ (c .before .before .before .before .before .before .next .result) (c .before .before .before .before .before .before .next .ensures), c .before .before .before .before .before .before .before .before .loop .inv .0 .shallow))))
 
--- src/lib.rt:518:13
 add-d : tie.Need-add-d Inv-loop μ-loop
-add-d c = ?
+add-d c = omega (arith, visit-deep _ (c .before .before .before .before .before .before .before .before .before .loop .left) _ _ (c .before .before .before .before .before .before .before .next .result) (c .before .before .before .before .before .before .before .next .ensures), c .before .before .before .before .before .before .before .before .before .loop .inv .0 .shallow)
 
--- src/lib.rt:519:9
 sub-left : tie.Need-sub-left Inv-loop μ-loop
-sub-left c = ?
+sub-left c = omega arith
 
--- src/lib.rt:511:5
 loop-less : tie.Need-loop-less Inv-loop μ-loop
-loop-less c = ?
+loop-less c = omega arith
 
--- src/lib.rt:511:5
 loop-again : tie.Need-loop-again Inv-loop μ-loop
-loop-again c = ?
+loop-again c = (measure-on _ _ _ _ _ (c .before .before .before .before .before .before .before .next .result) (c .before .before .before .before .before .before .before .next .ensures) _ _ (c .before .before .before .before .before .before .before .before .before .loop .inv .0) (c .before .before .before .before .before .before .before .before .loop-test .taken) (c .before .before .before .before .before .if1 .left) (visit-short (c .before .before .before .before .before .before .before .before .before .before .before .before .before .args .listed) (records (c .before .before .before .before .before .before .before .before .before .before .before .before .before .args .it .now)) (records (c .before .before .before .before .before .before .before .before .before .before .before .before .before .args .sheet .now)) (c .before .before .before .before .before .before .before .next .result) (omega (arith, visit-deep _ (c .before .before .before .before .before .before .before .before .before .loop .left) _ _ (c .before .before .before .before .before .before .before .next .result) (c .before .before .before .before .before .before .before .next .ensures), c .before .before .before .before .before .before .before .before .before .loop .inv .0 .shallow))) (c .before .before .before .put-visit .ensures .end), c .before .before .before .put-visit .kept .0 ∙ c .before .before .before .before .before .before .before .before .before .loop .inv .1)
 
--- src/lib.rt:503:1
 same-length-2 : tie.Need-same-length-2 Inv-loop μ-loop
-same-length-2 c = ?
+same-length-2 c = c .before .loop .inv .1 ∙ sym (c .before .before .before .before .before .pre .2)
 
--- src/lib.rt:503:1
 returns-2 : tie.Need-returns-2 Inv-loop μ-loop
-returns-2 c = ?
+returns-2 c = measure-end _ _ _ _ _ (c .loop-test .left) _ (c .before .loop .inv .0)
 
 pub measure-spec : {M : Type 1} → statement M
 measure-spec =

@@ -11,20 +11,25 @@ use mathlib.Core.Path.{_∙_, _≡_, ap, refl, sym}
 use native.Mathlib.Decide.{decLe}
 use native.Mathlib.Numerals.{add-one}
 use native.Mathlib.Omega.{arith}
+use Rattle.itinerary.specs.Laws.{valid-few, valid-whole}
 use Rattle.model.specs.Finite.{lowest, unequal}
 use Rattle.model.specs.Laws.Bytes.{at-whole, length-records}
 use Rattle.model.specs.Listing.{digitsIn, field}
 use Rattle.model.specs.Records.{at, count, decode, parentOf, records}
+use Rattle.model.specs.Refusals.{content, pass, refuse}
+use Rattle.model.specs.Validity.{validity}
 use Rattle.model.specs.declared.Rec.{Rec}
+use Rattle.model.specs.declared.Refusal.{Refusal}
 use Rattle.textform.specs.Laws.Identity.{next-visited, walk-end}
 use Rattle.textform.specs.Laws.Lines.{digits-high, digits-low}
 use Rattle.textform.specs.Laws.Nesting.{walk-next}
 use Rattle.textform.specs.Laws.Putting.{entry-length, fields-length, length-splice, splice-nil, splice-over, splice-splice}
 use Rattle.textform.specs.Lines.{ambientWord, entry, hiddenWord, inWord, kindWord, lineBytes, openWord, outWord, over, render, splice}
 use Rattle.textform.specs.Steps.{Bench, Put, Written, fields, front, visitLine}
-use Rattle.textform.specs.Writing.{childAfter, childOr, fits, isChild, lineAt, linesOf, mark, nextFrom, orZero, overIf, textOf, walk, walkFrom}
+use Rattle.textform.specs.Writing.{childAfter, childOr, fits, isChild, lineAt, linesOf, mark, nextFrom, orZero, overIf, textOf, told, toldAfter, walk, walkFrom, writeAfter, writeAnswer}
 use Rattle.textform.specs.declared.Line.{Line}
-use Rattle.textform.specs.declared.TextWritten.the-variants.{Length, NoRoom}
+use Rattle.textform.specs.declared.TextWritten.{TextWritten}
+use Rattle.textform.specs.declared.TextWritten.the-variants.{Length, NoRoom, Refused}
 use Rattle.textform.specs.declared.Visit.{Visit}
 
 -- record i as it is read
@@ -234,3 +239,22 @@ pub plain-lines : (its shown : List Rec) (vs : List Visit) → linesOf (visitLin
 unfolding linesOf visitLine render lineBytes front mark
 plain-lines its shown [] = refl
 plain-lines its shown (v ∷ vs) = ap (λ x. entry [] [] (lineAt its v) ++ x) (plain-lines its shown vs)
+
+text-plain : (its : List Rec) → linesOf (visitLine false its its) (walk its) ≡ textOf its
+unfolding textOf
+text-plain its = plain-lines its its (walk its)
+
+-- the writer's answer, after the checks
+module _ (s t : List ℕ) where
+  pub write-refused : (r : Refusal) → validity s ≡ refuse (r .number) (r .record) → (Refused r ≡ writeAnswer s t) × (t ≡ writeAfter s t)
+  unfolding writeAnswer writeAfter told toldAfter content
+  write-refused r e = (rw e, rw e)
+
+  pub write-done : (t′ : List ℕ) (r : TextWritten) → validity s ≡ pass → Written (linesOf (visitLine false (records s) (records s)) (walk (records s))) t t′ r → (r ≡ writeAnswer s t) × (t′ ≡ writeAfter s t)
+  unfolding writeAnswer writeAfter told toldAfter content
+  write-done t′ r e w =
+      let q = text-plain (records s) in
+      (rw e (rw q at (w .answer)), rw e (rw q at (w .bytes)))
+
+pub bench : (s : List ℕ) → validity s ≡ pass → Bench s
+bench s v = record { whole = valid-whole s v; few = valid-few s v }
