@@ -6,3 +6,4 @@ pub mod Scanning
 pub mod Placing
 pub mod Putting
 pub mod Walking
+pub mod Listing

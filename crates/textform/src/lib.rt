@@ -1,4 +1,5 @@
 // The text form of an itinerary: reading it, writing it, and listing an itinerary with what the sheet hides marked.
+use model::Performed;
 use model::Rec;
 use model::Refusal;
 use model::Validated;
@@ -14,7 +15,7 @@ ghost use Rattle.model.specs.Validity.{labelIn};
 ghost use Rattle.textform.specs.Lines.{entry, kindWord, over};
 ghost use Rattle.textform.specs.Reading.{causeOf, digit, ended, labelled, lineRead, named, noneAbove, numeral, numeralOf, readAfter, readAnswer, recordOf, scan, scanAnswer, spaces, starts, worded};
 ghost use Rattle.textform.specs.Steps.{Bench, Placeable, Put, Written, fields, front, scanned, visitLine};
-ghost use Rattle.textform.specs.Writing.{childAfter, linesOf, mark, nextFrom, walk, writeAfter, writeAnswer};
+ghost use Rattle.textform.specs.Writing.{childAfter, linesOf, listAfter, listAnswer, mark, nextFrom, walk, writeAfter, writeAnswer};
 
 // A line of the text form: how far it is indented, and the record's kind, label and name.
 pub struct Line {
@@ -565,4 +566,42 @@ pub fn write_text(it: &[u8], text: &mut [u8]) -> TextWritten
         Validated::Refused(r) => TextWritten::Refused(r),
         Validated::Done(_) => write_by(it, it, false, text),
     }
+}
+
+// Lists with a sheet of the itinerary's length to mark by; inner.
+fn list_with(it: &[u8], table: &[u8], sheet: &mut [u8], text: &mut [u8]) -> TextWritten
+    requires { ⌜ length (now sheet) ≡ length (now it) ⌝ }
+    ensures { λ r. ⌜ (r ≡ listAnswer (now (it .entry)) (now (table .entry)) (now (text .entry)))
+        × (now (text .exit) ≡ listAfter (now (it .entry)) (now (table .entry)) (now (text .entry))) ⌝ }
+{
+    match observer::sheet(it, table, sheet) {
+        Performed::Refused(r) => TextWritten::Refused(r),
+        Performed::Done => write_by(it, sheet, true, text),
+    }
+}
+
+// Lists with room for a sheet; inner.
+fn list_by(it: &[u8], table: &[u8], sheet: &mut [u8], text: &mut [u8]) -> TextWritten
+    requires { ⌜ length (now sheet) ≡ 8192 ⌝ }
+    ensures { λ r. ⌜ (r ≡ listAnswer (now (it .entry)) (now (table .entry)) (now (text .entry)))
+        × (now (text .exit) ≡ listAfter (now (it .entry)) (now (table .entry)) (now (text .entry))) ⌝ }
+{
+    let n = it.len();
+    if 8192 < n {
+        return TextWritten::Refused(Refusal {
+            number: 1,
+            record: 0,
+        });
+    }
+    list_with(it, table, &mut sheet[..n], text)
+}
+
+// Lists an itinerary after refusals 1 to 6 and 8: the text form with each record's number, and with a mark on what the
+// sheet hides. A text with no room for it stays as it was.
+pub fn list_text(it: &[u8], table: &[u8], text: &mut [u8]) -> TextWritten
+    ensures { λ r. ⌜ (r ≡ listAnswer (now (it .entry)) (now (table .entry)) (now (text .entry)))
+        × (now (text .exit) ≡ listAfter (now (it .entry)) (now (table .entry)) (now (text .entry))) ⌝ }
+{
+    let mut sheet = [0u8; 8192];
+    list_by(it, table, &mut sheet, text)
 }
