@@ -5,11 +5,6 @@ use native.Mathlib.Omega.{arith}
 use borrow.Author.Needs.{needs}
 use Rattle.hubscreen.proofs.screen_parts.Statement.{statement}
 use Rattle.hubscreen.proofs.screen_parts.Tie as tie
-use Rattle.hubscreen.proofs.screen_parts.Reads as reads
-use Rattle.hubscreen.proofs.screen_parts.Lts as lts
-use Rattle.hubscreen.proofs.show_refusal.Reads as show-refusal-reads
-use Rattle.hubscreen.proofs.show_screen.Reads as show-screen-reads
-use Rattle.screen.proofs.screen.Reads as screen-reads
 
 -- src/main.rt:157:9
 returns : tie.Need-returns
@@ -60,8 +55,8 @@ enum-known-r : tie.Need-enum-known-r
 enum-known-r c = search needs
 
 -- src/main.rt:169:33
-show-refusal-requires : tie.Need-show-refusal-requires
-show-refusal-requires c κs = search needs
+refused-requires : tie.Need-refused-requires
+refused-requires c κs = search needs
 
 -- src/main.rt:170:24
 enum-known-s : tie.Need-enum-known-s
@@ -123,7 +118,7 @@ screen-parts-spec =
     slice-aggregate-screen-4
     screen-requires
     enum-known-r
-    show-refusal-requires
+    refused-requires
     enum-known-s
     slice-aggregate-show-screen
     slice-reshare-prefix-show-screen

@@ -1,0 +1,26 @@
+// Reads itinerary.bin and writes the text form of the itinerary, or the line of its refusal.
+use textform::TextWritten;
+
+// Room for the longest text of 1,024 lines.
+fn room() -> [u8; 1061888] {
+    [0u8; 1061888]
+}
+
+// Converts the first n bytes. (The test is there for the proof that they exist.)
+fn convert(it: &[u8], n: usize, text: &mut [u8]) {
+    if it.len() < n {
+        return;
+    }
+    match textform::write_text(&it[..n], text) {
+        TextWritten::Refused(r) => files::refused(r),
+        TextWritten::Length(len) => files::first(text, len),
+        TextWritten::NoRoom(_) => {}
+    }
+}
+
+fn main() {
+    let mut it = [0u8; 8193];
+    let mut text = room();
+    let n = files::load_most(b"itinerary.bin", &mut it, 8192);
+    convert(&it, n, &mut text);
+}
