@@ -20,7 +20,9 @@ fn show_cause(cause: u8) {
         3 => error(b"indented by more than two spaces below the line before\n"),
         4 => error(b"no word ambient, in, out or open with a space after it\n"),
         5 => error(b"no number for a label\n"),
-        6 => error(b"label wrong for its kind: 1 to 63 on an ambient, 64 to 127 on in, out and open\n"),
+        6 => error(
+            b"label wrong for its kind: 1 to 63 on an ambient, 64 to 127 on in, out and open\n",
+        ),
         7 => error(b"no space and number for a name after the label\n"),
         8 => error(b"name over 63\n"),
         9 => error(b"something after the name\n"),

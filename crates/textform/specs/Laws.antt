@@ -3,6 +3,7 @@ pub mod Nesting
 pub mod Lines
 pub mod Identity
 pub mod Scanning
+pub mod Exact
 pub mod Placing
 pub mod Putting
 pub mod Walking

@@ -76,14 +76,18 @@ digit c = leb 48 c && leb c 57
 unfoldable pub numeralOf : ℕ → ℕ → ℕ → Decimal
 numeralOf a b c =
     elim (digit a) [
-      false ↦ record { value = 0; width = 0 }
-    | true ↦ elim (eqb a 48) [
-        true ↦ record { value = 0; width = 1 }
-      | false ↦ elim (digit b) [
-          false ↦ record { value = a - 48; width = 1 }
-        | true ↦ elim (digit c) [
-            false ↦ record { value = 10 * (a - 48) + (b - 48); width = 2 }
-          | true ↦ record { value = 100 * (a - 48) + (10 * (b - 48) + (c - 48)); width = 3 } ] ] ] ]
+      | false ↦ record { value = 0; width = 0 }
+      | true ↦ elim (eqb a 48) [
+        | true ↦ record { value = 0; width = 1 }
+        | false ↦ elim (digit b) [
+          | false ↦ record { value = a - 48; width = 1 }
+          | true ↦ elim (digit c) [
+            | false ↦ record { value = 10 * (a - 48) + (b - 48); width = 2 }
+            | true ↦ record { value = 100 * (a - 48) + (10 * (b - 48) + (c - 48)); width = 3 }
+          ]
+        ]
+      ]
+    ]
 
 -- the number that the bytes start with
 unfoldable pub numeral : List ℕ → Decimal
@@ -118,12 +122,15 @@ labelled d k s =
 unfoldable pub worded : ℕ → List ℕ → LineRead
 worded d s =
     elim (starts ambientWord s) [
-      true ↦ labelled d 1 (drop 8 s)
-    | false ↦ elim (starts inWord s) [
-        true ↦ labelled d 2 (drop 3 s)
-      | false ↦ elim (starts outWord s) [
-          true ↦ labelled d 3 (drop 4 s)
-        | false ↦ elim (starts openWord s) [ true ↦ labelled d 4 (drop 5 s) | false ↦ Bad unknownKind ] ] ] ]
+      | true ↦ labelled d 1 (drop 8 s)
+      | false ↦ elim (starts inWord s) [
+        | true ↦ labelled d 2 (drop 3 s)
+        | false ↦ elim (starts outWord s) [
+          | true ↦ labelled d 3 (drop 4 s)
+          | false ↦ elim (starts openWord s) [ true ↦ labelled d 4 (drop 5 s) | false ↦ Bad unknownKind ]
+        ]
+      ]
+    ]
 
 -- the line that the bytes start with, where it may be indented by at most deepest steps
 unfoldable pub lineRead : ℕ → List ℕ → LineRead
@@ -147,8 +154,9 @@ scanFrom zero deepest (c ∷ s) = record { lines = []; fault = some tooMany }
 scanFrom (suc room) deepest [] = record { lines = []; fault = none }
 scanFrom (suc room) deepest (c ∷ s) =
     elim (lineRead deepest (c ∷ s)) [
-      Good l left ↦ before l (scanFrom room (suc (l .depth)) (drop (suc (length s) - left) (c ∷ s)))
-    | Bad cause ↦ record { lines = []; fault = some cause } ]
+      | Good l left ↦ before l (scanFrom room (suc (l .depth)) (drop (suc (length s) - left) (c ∷ s)))
+      | Bad cause ↦ record { lines = []; fault = some cause }
+    ]
 
 -- the first line is not indented
 unfoldable pub scan : ℕ → List ℕ → Scan

@@ -117,10 +117,16 @@ fn numeral_of(a: u8, b: u8, c: u8) -> Decimal
     }
     let y = (b - 48) as u16;
     if !digit(c) {
-        return Decimal { value: 10 * x + y, width: 2 };
+        return Decimal {
+            value: 10 * x + y,
+            width: 2,
+        };
     }
     let z = (c - 48) as u16;
-    Decimal { value: 100 * x + (10 * y + z), width: 3 }
+    Decimal {
+        value: 100 * x + (10 * y + z),
+        width: 3,
+    }
 }
 
 // The number that the bytes start with.
@@ -426,7 +432,14 @@ fn put_mark(text: &mut [u8], at: usize, hidden: bool) -> usize
 }
 
 // Puts a line; inner.
-fn put_entry(text: &mut [u8], at: usize, listed: bool, number: u16, hidden: bool, line: Line) -> usize
+fn put_entry(
+    text: &mut [u8],
+    at: usize,
+    listed: bool,
+    number: u16,
+    hidden: bool,
+    line: Line,
+) -> usize
     requires { ⌜ (line .depth ≤ 1024) × (at + length (entry (front listed number) (mark hidden) line) ≤ length (now text)) ⌝ }
     ensures { λ r. ⌜ Put (now (text .entry)) at (entry (front listed number) (mark hidden) line) (now (text .exit)) r ⌝ }
 {

@@ -29,7 +29,7 @@ labelled-requires c κs = search needs
 
 returns : tie.Need-returns
 unfolding ambientWord
-returns c = c .labelled .ensures ∙ ap (labelled _ 1) (part 8 (c .before .before .before .before .before .before .args .s .now)) ∙ sym (worded-1 _ _  (sym (c .before .before .before .starts .ensures) ∙ c .before .before .if1 .taken))
+returns c = c .labelled .ensures ∙ ap (labelled _ 1) (part 8 (c .before .before .before .before .before .before .args .s .now)) ∙ sym (worded-1 _ _ (sym (c .before .before .before .starts .ensures) ∙ c .before .before .if1 .taken))
 
 slice-aggregate-starts-2 : tie.Need-slice-aggregate-starts-2
 slice-aggregate-starts-2 c = search needs

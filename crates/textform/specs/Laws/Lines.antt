@@ -141,10 +141,10 @@ spaces-after zero s e = e
 spaces-after (suc n) s e = ap suc (spaces-after n s e)
 
 -- what follows the indentation of a line
-unfoldable tailBytes : Line → List ℕ → List ℕ
+unfoldable pub tailBytes : Line → List ℕ → List ℕ
 tailBytes l s = kindWord (l .kind) ++ (digitsIn 5 (l .label) ++ (32 ∷ (digitsIn 5 (l .name) ++ (10 ∷ s))))
 
-line-parts : (l : Line) (s : List ℕ) → lineBytes l ++ s ≡ replicate (2 * l .depth) 32 ++ tailBytes l s
+pub line-parts : (l : Line) (s : List ℕ) → lineBytes l ++ s ≡ replicate (2 * l .depth) 32 ++ tailBytes l s
 unfolding lineBytes entry indent field tailBytes
 line-parts l s = simp append-assoc
 
@@ -188,12 +188,12 @@ pub record Got (d : ℕ) (s : List ℕ) (l : Line) (left : ℕ) : Type 0 where
   pub right : Right l
   pub fewer : left < length s
 
-demand-good : (b : Bool) (cause : ℕ) (next : LineRead) {l : Line} {left : ℕ} → demand b cause next ≡ Good l left → (b ≡ true) × (next ≡ Good l left)
+pub demand-good : (b : Bool) (cause : ℕ) (next : LineRead) {l : Line} {left : ℕ} → demand b cause next ≡ Good l left → (b ≡ true) × (next ≡ Good l left)
 unfolding demand
 demand-good true cause next e = (refl, e)
 demand-good false cause next e = let u : _≡_ {A = ℕ} 0 1 = cc in absurd (omega arith)
 
-ended-good : (m : Line) (s : List ℕ) {l : Line} {left : ℕ} → ended m s ≡ Good l left → (m ≡ l) × (left < length s)
+pub ended-good : (m : Line) (s : List ℕ) {l : Line} {left : ℕ} → ended m s ≡ Good l left → (m ≡ l) × (left < length s)
 unfolding ended
 ended-good m [] e = let u : _≡_ {A = ℕ} 0 1 = cc in absurd (omega arith)
 ended-good m (c ∷ s) {l} {left} e =
@@ -202,7 +202,7 @@ ended-good m (c ∷ s) {l} {left} e =
     let v : length s ≡ left = cc in
     (u, omega arith)
 
-named-good : (d k label : ℕ) (s : List ℕ) {l : Line} {left : ℕ} → named d k label s ≡ Good l left → (l .depth ≡ d) × (l .kind ≡ k) × (l .label ≡ label) × (l .name ≤ 63) × (left < length s)
+pub named-good : (d k label : ℕ) (s : List ℕ) {l : Line} {left : ℕ} → named d k label s ≡ Good l left → (l .depth ≡ d) × (l .kind ≡ k) × (l .label ≡ label) × (l .name ≤ 63) × (left < length s)
 unfolding named
 named-good d k label s {l} {left} e =
     let n = numeral (drop 1 s) in
@@ -213,7 +213,7 @@ named-good d k label s {l} {left} e =
     let w : l .name ≡ n .value = sym (ap (λ x. x .name) (g .0)) in
     (sym (ap (λ x. x .depth) (g .0)), sym (ap (λ x. x .kind) (g .0)), sym (ap (λ x. x .label) (g .0)), omega (arith, leb-true (n .value) 63 (c .0)), omega (arith, g .1, length-drop (n .width) (drop 1 s), length-drop 1 s))
 
-labelled-good : (d k : ℕ) (s : List ℕ) {l : Line} {left : ℕ} → 1 ≤ k → k ≤ 4 → labelled d k s ≡ Good l left → Got d s l left
+pub labelled-good : (d k : ℕ) (s : List ℕ) {l : Line} {left : ℕ} → 1 ≤ k → k ≤ 4 → labelled d k s ≡ Good l left → Got d s l left
 unfolding labelled
 labelled-good d k s {l} {left} x y e =
     let n = numeral s in
@@ -229,7 +229,7 @@ labelled-good d k s {l} {left} x y e =
 got-past : (n : ℕ) (s : List ℕ) {d : ℕ} {l : Line} {left : ℕ} → Got d (drop n s) l left → Got d s l left
 got-past n s g = record { deep = g .deep; right = g .right; fewer = omega (arith, g .fewer, length-drop n s) }
 
-worded-good : (d : ℕ) (s : List ℕ) {l : Line} {left : ℕ} → worded d s ≡ Good l left → Got d s l left
+pub worded-good : (d : ℕ) (s : List ℕ) {l : Line} {left : ℕ} → worded d s ≡ Good l left → Got d s l left
 unfolding worded
 worded-good d s {l} {left} e = first (starts ambientWord s) refl
   where

@@ -73,7 +73,7 @@ pub digit-low : (c : ℕ) → digit c ≡ true → 48 ≤ c
 unfolding digit
 digit-low c e = leb-true _ _ (and-left _ _ e)
 
-digit-inside : (s : List ℕ) (j : ℕ) → digit (byte s j) ≡ true → j < length s
+pub digit-inside : (s : List ℕ) (j : ℕ) → digit (byte s j) ≡ true → j < length s
 digit-inside s j e = byte-inside s j (λ z. omega (arith, digit-low (byte s j) e, z))
 
 pub numeral-none : (a b c : ℕ) → digit a ≡ false → numeralOf a b c ≡ record { value = 0; width = 0 }

@@ -207,8 +207,8 @@ module _ (f : Visit → List ℕ) (its : List Rec) (left p d : ℕ) (v : Visit) 
         room = omega arith;
         sized = k ∙ w .sized;
         bytes =
-          ap (splice q′ _) (y .bytes) ∙ splice-splice t q (f v) (ahead f its (left - 1) (v .number) (v .depth + 1)) q′ (y .end) h
-          ∙ ap (λ x. splice q x t) (sym (ahead-on l z)) ∙ w .bytes;
+            ap (splice q′ _) (y .bytes) ∙ splice-splice t q (f v) (ahead f its (left - 1) (v .number) (v .depth + 1)) q′ (y .end) h
+            ∙ ap (λ x. splice q x t) (sym (ahead-on l z)) ∙ w .bytes;
       }
 
   pub fill-stop : {t₀ t : List ℕ} {q : ℕ} → Filling f its t₀ t left p d q → v .number ≡ 0 → t ≡ over (linesOf f (walk its)) t₀
