@@ -180,6 +180,10 @@ noneAbove = replicate 1025 0
 unfoldable pub placed : List Line → List Rec
 placed ls = placedFrom 1 noneAbove ls
 
+-- the bytes of the itinerary that a text stands for
+unfoldable pub bytesOf : List ℕ → List ℕ
+bytesOf text = encode (placed (scan 1024 text .lines))
+
 -- at most 1,024 records, and no more than the bytes hold
 unfoldable pub roomIn : List ℕ → ℕ
 roomIn it = min 1024 (length it / 8)

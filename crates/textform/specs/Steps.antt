@@ -3,7 +3,7 @@ use Prim.Native.Nat.{_%_, _*_, _+_, _<_, _≤_, ℕ}
 use lib.Dec.{eqb, leb}
 use lib.ListN.{length}
 use mathlib.Core.Bool.{Bool, _&&_, false, true}
-use mathlib.Core.List.{List, [], _++_, _∷_}
+use mathlib.Core.List.{List, [], _++_}
 use mathlib.Core.Path.{_≡_}
 use Rattle.itinerary.specs.Written.{written}
 use Rattle.model.specs.Listing.{digitsIn, field}

@@ -2,10 +2,10 @@
 use Prim.Native.Nat.{_%_, _*_, _+_, _-_, _/_, _<_, _≤_, suc, zero, ℕ}
 use borrow.Author.Tests.{eqb-true, leb-true}
 use lib.Dec.{eqb, leb}
-use lib.ListN.{drop, getD, length, length-drop, replicate}
+use lib.ListN.{drop, length, length-drop, replicate}
 use lib.Seq.{drop-cons, drop-drop}
-use mathlib.Core.Bool.{Bool, _&&_, false, true, true≢false}
-use mathlib.Core.List.{List, [], _++_, _∷_, append-assoc}
+use mathlib.Core.Bool.{Bool, false, true, true≢false}
+use mathlib.Core.List.{List, [], _++_, _∷_}
 use mathlib.Core.Logic.{_≢_}
 use mathlib.Core.Option.{none, some}
 use mathlib.Core.Path.{_∙_, _≡_, ap, refl, sym}
@@ -13,14 +13,14 @@ use native.Mathlib.Decide.{ℕ-discrete}
 use native.Mathlib.Omega.{arith}
 use Rattle.model.specs.Laws.Bytes.{records-encode}
 use Rattle.model.specs.Laws.WellFormed.{and-right}
-use Rattle.model.specs.Listing.{digitsIn, field}
+use Rattle.model.specs.Listing.{digitsIn}
 use Rattle.model.specs.Records.{byte, encode, records}
 use Rattle.model.specs.Validity.{labelIn}
-use Rattle.textform.specs.Laws.Lines.{Got, demand-good, digits-1, digits-2, digits-3, ended-good, labelled-good, line-good, line-parts, named-good, numeral-0, numeral-1, numeral-2, numeral-3, scan-bad, scan-good, scan-nested, tailBytes, worded-good}
+use Rattle.textform.specs.Laws.Lines.{demand-good, digits-1, digits-2, digits-3, ended-good, line-parts, named-good, numeral-0, numeral-1, numeral-2, numeral-3, scan-bad, scan-good, scan-nested, tailBytes, worded-good}
 use Rattle.textform.specs.Laws.Nesting.{walk-placed}
-use Rattle.textform.specs.Laws.Scanning.{digit-inside, digit-low, numeral-none, starts-long}
+use Rattle.textform.specs.Laws.Scanning.{digit-inside, digit-low, numeral-none}
 use Rattle.textform.specs.Lines.{ambientWord, inWord, kindWord, lineBytes, openWord, outWord, render}
-use Rattle.textform.specs.Reading.{Scan, before, demand, digit, ended, labelled, lineRead, named, numeral, numeralOf, placed, scan, scanFrom, spaces, starts, unknownKind, worded}
+use Rattle.textform.specs.Reading.{before, digit, ended, labelled, lineRead, named, numeral, numeralOf, placed, scan, scanFrom, spaces, starts, unknownKind, worded}
 use Rattle.textform.specs.Writing.{textOf}
 use Rattle.textform.specs.declared.Line.{Line}
 use Rattle.textform.specs.declared.LineRead.{LineRead}
@@ -81,7 +81,6 @@ numeral-exact s h = go (digit a) (ℕ-discrete a 48) (digit b) (digit c) refl re
         (rw (digits-1 (a - 48) (omega (arith, digit-high a p)))
         (let e : 48 + (a - 48) ≡ a = omega (arith, digit-low a p) in rw e (first-1 s (digit-inside s 0 p))))
     go true (no u) true false p q r =
-        let v = 10 * (a - 48) + (b - 48) in
         rw (numeral-2 a b c p u q r)
         (rw (digits-2 (10 * (a - 48) + (b - 48)) (omega (arith, digit-low a p)) (omega (arith, digit-high a p, digit-high b q)))
         (let e : 48 + (10 * (a - 48) + (b - 48)) / 10 ≡ a = omega (arith, digit-low a p, digit-low b q, digit-high b q) in
@@ -149,22 +148,23 @@ labelled-exact d k s {l} {left} e =
       kind = g .1;
       fewer = omega (arith, g .4, length-drop (n .width) s);
       bytes =
-        ap (λ x. digitsIn 5 x ++ (32 ∷ (digitsIn 5 (l .name) ++ (10 ∷ drop (length s - left) s)))) (g .2)
-        ∙ ap (λ x. digitsIn 5 (n .value) ++ (32 ∷ (digitsIn 5 (l .name) ++ (10 ∷ x)))) (sym (left-same (n .width) s left (g .4)))
-        ∙ ap (λ x. digitsIn 5 (n .value) ++ x) (named-exact d k (n .value) (drop (n .width) s) (b .1))
-        ∙ numeral-exact s (leb-true 1 (n .width) (z .0));
+          ap (λ x. digitsIn 5 x ++ (32 ∷ (digitsIn 5 (l .name) ++ (10 ∷ drop (length s - left) s)))) (g .2)
+          ∙ ap (λ x. digitsIn 5 (n .value) ++ (32 ∷ (digitsIn 5 (l .name) ++ (10 ∷ x)))) (sym (left-same (n .width) s left (g .4)))
+          ∙ ap (λ x. digitsIn 5 (n .value) ++ x) (named-exact d k (n .value) (drop (n .width) s) (b .1))
+          ∙ numeral-exact s (leb-true 1 (n .width) (z .0));
     }
 
 -- the same from the kind's word on
 word-exact : (d k : ℕ) (w s : List ℕ) {l : Line} {left : ℕ} → kindWord k ≡ w → starts w s ≡ true → Labelled d k (drop (length w) s) l left → (l .depth ≡ d) × (tailBytes l (drop (length s - left) s) ≡ s)
 unfolding tailBytes
-word-exact d k w s {l} {left} e t g =
-    (g .depth,
-    ap (λ x. kindWord x ++ (digitsIn 5 (l .label) ++ (32 ∷ (digitsIn 5 (l .name) ++ (10 ∷ drop (length s - left) s))))) (g .kind)
-    ∙ ap (λ x. x ++ (digitsIn 5 (l .label) ++ (32 ∷ (digitsIn 5 (l .name) ++ (10 ∷ drop (length s - left) s))))) e
-    ∙ ap (λ x. w ++ (digitsIn 5 (l .label) ++ (32 ∷ (digitsIn 5 (l .name) ++ (10 ∷ x))))) (sym (left-same (length w) s left (g .fewer)))
-    ∙ ap (λ x. w ++ x) (g .bytes)
-    ∙ starts-exact w s t)
+word-exact d k w s {l} {left} e t g = (
+  g .depth,
+  ap (λ x. kindWord x ++ (digitsIn 5 (l .label) ++ (32 ∷ (digitsIn 5 (l .name) ++ (10 ∷ drop (length s - left) s))))) (g .kind)
+      ∙ ap (λ x. x ++ (digitsIn 5 (l .label) ++ (32 ∷ (digitsIn 5 (l .name) ++ (10 ∷ drop (length s - left) s))))) e
+      ∙ ap (λ x. w ++ (digitsIn 5 (l .label) ++ (32 ∷ (digitsIn 5 (l .name) ++ (10 ∷ x))))) (sym (left-same (length w) s left (g .fewer)))
+      ∙ ap (λ x. w ++ x) (g .bytes)
+      ∙ starts-exact w s t,
+)
 
 worded-exact : (d : ℕ) (s : List ℕ) {l : Line} {left : ℕ} → worded d s ≡ Good l left → (l .depth ≡ d) × (tailBytes l (drop (length s - left) s) ≡ s)
 unfolding worded kindWord ambientWord inWord outWord openWord
@@ -226,5 +226,4 @@ pub read-written : (room : ℕ) (text : List ℕ) → room ≤ 1024 → scan roo
 unfolding scan textOf
 read-written room text few e =
     let w = scan-nested room 0 text in
-    let ls = scanFrom room 0 text .lines in
     rw (records-encode (placed (scanFrom room 0 text .lines))) (ap render (walk-placed (scanFrom room 0 text .lines) (w .0) (omega (arith, w .1))) ∙ scan-exact room 0 text e)

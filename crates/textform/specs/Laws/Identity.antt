@@ -1,33 +1,35 @@
 -- Text to bytes to text is the identity on what is written, and what is read is valid.
 use Prim.Native.Nat.{_+_, _-_, _<_, _≤_, suc, zero, ℕ}
 use borrow.Author.Tests.{eqb-false, le-leb, leb-true, not-true}
-use lib.Dec.{eqb, leb}
-use lib.ListN.{getD, length, length-map, length-set, set}
+use lib.Dec.{leb}
+use lib.ListN.{getD, length, length-map, set}
 use lib.Seq.{getD-set-other, getD-set-same, set-out}
-use mathlib.Core.Bool.{Bool, _&&_, false, not, true}
+use mathlib.Core.Bool.{true}
 use mathlib.Core.List.{List, [], _∷_, map}
 use mathlib.Core.Logic.{_≢_}
 use mathlib.Core.Option.{Option, none, some}
 use mathlib.Core.Path.{_∙_, _≡_, ap, refl, sym}
-use native.Mathlib.Decide.{decLe, decLt, ℕ-discrete}
+use native.Mathlib.Decide.{decLt, ℕ-discrete}
 use native.Mathlib.Omega.{arith}
 use Rattle.model.specs.Finite.{lowest}
-use Rattle.model.specs.Laws.Bytes.{length-records, records-encode, shape-kind, valid-wf, wf-valid}
+use Rattle.model.specs.Laws.Bytes.{count-encode, length-records, records-encode, shape-kind, valid-wf, wf-valid}
 use Rattle.model.specs.Laws.Finite.{lowest-some}
 use Rattle.model.specs.Laws.Forest.{Depth, root, under-of}
-use Rattle.model.specs.Laws.Updates.{at-over, at-root}
+use Rattle.model.specs.Laws.Updates.{at-over}
 use Rattle.model.specs.Laws.WellFormed.{WellFormed, and-left, named, shape, shape-label, shape-make}
 use Rattle.model.specs.Records.{at, count, encode, gone, isAmbient, nested, parentOf, records}
-use Rattle.model.specs.Refusals.{pass}
-use Rattle.model.specs.Validity.{kindRight, labelBy, labelIn, labelRight, nameBy, nameRight, validity}
+use Rattle.model.specs.Refusals.{content, pass}
+use Rattle.model.specs.Validity.{kindRight, labelBy, labelRight, nameBy, nameRight, validity}
 use Rattle.model.specs.declared.Rec.{Rec}
 use Rattle.itinerary.specs.Laws.{valid-few}
 use Rattle.textform.specs.Laws.Lines.{scan-nested, scan-render}
-use Rattle.textform.specs.Laws.Nesting.{Nested, Right, cons, length-placed, nil, none-length, none-zero, walk-next, walk-placed}
-use Rattle.textform.specs.Lines.{render}
-use Rattle.textform.specs.Reading.{noneAbove, placed, placedFrom, recordOf, scan}
-use Rattle.textform.specs.Writing.{childAfter, childOr, isChild, lineAt, nextFrom, orZero, textOf, walk, walkFrom}
+use Rattle.textform.specs.Laws.Nesting.{Nested, Right, cons, length-placed, nil, none-zero, walk-next, walk-placed}
+use Rattle.textform.specs.Lines.{over, render}
+use Rattle.textform.specs.Reading.{bytesOf, noneAbove, placed, placedFrom, readAfter, readAnswer, readBy, readInto, recordOf, roomIn, scan, scanAnswer}
+use Rattle.textform.specs.Writing.{childAfter, childOr, fits, isChild, lineAt, nextFrom, orZero, overIf, textOf, told, toldAfter, walk, walkFrom, writeAfter, writeAnswer}
 use Rattle.textform.specs.declared.Line.{Line}
+use Rattle.textform.specs.declared.TextRead.the-variants.{Records}
+use Rattle.textform.specs.declared.TextWritten.the-variants.{Length}
 use Rattle.textform.specs.declared.Visit.{Visit}
 
 -- a record that is visited is none that is gone, and stands no deeper than d
@@ -204,7 +206,31 @@ module _ (s : List ℕ) (v : validity s ≡ pass) where
   unfolding scan textOf written-lines
   accepted = scan-render 1024 0 written-lines (written-nested .0) (written-nested .1)
 
+  pub accepted-lines : bytesOf (textOf (records s)) ≡ encode (placed (map (lineAt (records s)) (walk (records s))))
+  unfolding bytesOf
+  accepted-lines = ap (λ x. encode (placed (x .lines))) accepted
+
   -- text to bytes to text is the identity on what is written
-  pub identity : textOf (records (encode (placed (scan 1024 (textOf (records s)) .lines)))) ≡ textOf (records s)
+  pub identity : textOf (records (bytesOf (textOf (records s)))) ≡ textOf (records s)
   unfolding textOf written-lines
-  identity = ap (λ x. textOf (records (encode (placed (x .lines))))) accepted ∙ rw (records-encode (placed written-lines)) (ap render (walk-placed written-lines (written-nested .0) (written-nested .1)))
+  identity = ap (λ x. textOf (records x)) accepted-lines ∙ rw (records-encode (placed written-lines)) (ap render (walk-placed written-lines (written-nested .0) (written-nested .1)))
+
+bytes-valid : (text : List ℕ) → validity (bytesOf text) ≡ pass
+unfolding bytesOf
+bytes-valid text = read-valid 1024 text (omega arith)
+
+written-count : (s : List ℕ) → validity s ≡ pass → length (map (lineAt (records s)) (walk (records s))) ≡ count (bytesOf (textOf (records s)))
+unfolding placed
+written-count s v = sym (ap count (accepted-lines s v) ∙ count-encode _ ∙ length-placed 1 noneAbove _)
+
+-- the same of the calls: what the writer wrote of a valid itinerary the reader takes, and the writer gives back
+pub calls-identity : (s it t : List ℕ) → validity s ≡ pass → length it ≡ 8192 → length (textOf (records s)) ≤ length t →
+    (readAnswer (textOf (records s)) it ≡ Records (count (bytesOf (textOf (records s))))) × (readAfter (textOf (records s)) it ≡ over (bytesOf (textOf (records s))) it)
+    × (writeAnswer (bytesOf (textOf (records s))) t ≡ Length (length (textOf (records s)))) × (writeAfter (bytesOf (textOf (records s))) t ≡ over (textOf (records s)) t)
+unfolding readAnswer readAfter readBy readInto scanAnswer roomIn writeAnswer writeAfter told toldAfter content fits overIf
+calls-identity s it t v l h =
+    let a = accepted s v in
+    let w : validity (bytesOf (textOf (records s))) ≡ pass = bytes-valid (textOf (records s)) in
+    let i = identity s v in
+    let r = le-leb (length (textOf (records s))) (length t) h in
+    (rw l (rw a (ap Records (written-count s v))), rw l (rw a (ap (λ x. over x it) (sym (accepted-lines s v)))), rw w (rw (i, r)), rw w (rw (i, r)))

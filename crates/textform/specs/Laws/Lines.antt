@@ -1,23 +1,23 @@
 -- A line that is written is read back, and what a line that is read has.
 use Prim.Native.Nat.{_%_, _*_, _+_, _-_, _/_, _<_, _≤_, suc, zero, ℕ}
-use borrow.Author.Tests.{eq-eqb, eqb-false, eqb-true, le-leb, leb-true, lt-leb, ne-eqb}
+use borrow.Author.Tests.{eq-eqb, le-leb, leb-true, lt-leb, ne-eqb}
 use lib.Dec.{eqb, leb}
-use lib.ListN.{List·getD-eq-default, drop, getD, length, length-append, length-drop, length-replicate, replicate}
+use lib.ListN.{drop, length, length-append, length-drop, length-replicate, replicate}
 use lib.Seq.{drop-append-seam, drop-at}
-use mathlib.Core.Bool.{Bool, _&&_, false, true, true≢false}
+use mathlib.Core.Bool.{Bool, false, true}
 use mathlib.Core.List.{List, [], _++_, _∷_, append-assoc}
 use mathlib.Core.Logic.{_≢_}
 use mathlib.Core.Option.{none, some}
 use mathlib.Core.Path.{_∙_, _≡_, ap, refl, sym}
 use native.Mathlib.Decide.{decLe, ℕ-discrete}
 use native.Mathlib.Omega.{arith}
-use Rattle.model.specs.Laws.WellFormed.{and-left, and-right, label-in}
+use Rattle.model.specs.Laws.WellFormed.{label-in}
 use Rattle.model.specs.Listing.{digitsIn, field}
 use Rattle.model.specs.Records.{byte}
 use Rattle.model.specs.Validity.{labelIn}
 use Rattle.textform.specs.Laws.Nesting.{Nested, Right, cons, nil}
 use Rattle.textform.specs.Lines.{ambientWord, entry, inWord, indent, kindWord, lineBytes, openWord, outWord, render}
-use Rattle.textform.specs.Reading.{Scan, before, demand, digit, ended, labelled, lineRead, named, numeral, numeralOf, scan, scanFrom, spaces, starts, unknownKind, worded}
+use Rattle.textform.specs.Reading.{before, demand, digit, ended, labelled, lineRead, named, numeral, numeralOf, scanFrom, spaces, starts, unknownKind, worded}
 use Rattle.textform.specs.declared.Line.{Line}
 use Rattle.textform.specs.declared.LineRead.{LineRead}
 use Rattle.textform.specs.declared.LineRead.the-variants.{Bad, Good}
@@ -152,7 +152,6 @@ line-parts l s = simp append-assoc
 pub line-back : (d : ℕ) (l : Line) → l .depth ≤ d → Right l → (s : List ℕ) → lineRead d (lineBytes l ++ s) ≡ Good l (length s)
 unfolding lineRead demand tailBytes
 line-back d l h r s =
-    let X = tailBytes l s in
     let e : spaces (replicate (2 * l .depth) 32 ++ tailBytes l s) ≡ 2 * l .depth = spaces-after (2 * l .depth) _ (word-solid (l .kind) (r .kind-low) (r .kind-high) _) in
     let f : 2 * l .depth / 2 ≡ l .depth = omega arith in
     rw (line-parts l s) (rw e (rw (eq-eqb (2 * l .depth % 2) 0 (omega arith), f, le-leb (l .depth) d h, drop-at (replicate (2 * l .depth) 32) (tailBytes l s) (2 * l .depth) (length-replicate _ _))

@@ -1,22 +1,23 @@
 -- The listing: the sheet tells what is hidden.
-use Prim.Native.Nat.{_%_, _<_, _≤_, suc, zero, ℕ}
+use Prim.Native.Nat.{_%_, _<_, suc, zero, ℕ}
 use borrow.Author.Tests.{eq-eqb, lt-leb, ne-eqb}
-use lib.Dec.{eqb, leb}
+use lib.Dec.{eqb}
 use lib.ListN.{length}
-use mathlib.Core.Bool.{Bool, _&&_, false, true}
-use mathlib.Core.List.{List, [], _++_, _∷_}
+use mathlib.Core.Bool.{Bool, false, true, and-false}
+use mathlib.Core.List.{List, _++_}
 use mathlib.Core.Logic.{_≢_}
 use mathlib.Core.Path.{_∙_, _≡_, ap, ap₂, refl, sym}
 use native.Mathlib.Omega.{arith}
-use Rattle.itinerary.specs.Laws.{answer-refused, then-next, then-refuse, valid-few, valid-size, valid-whole}
+use Rattle.itinerary.specs.Laws.{answer-refused, then-refuse, valid-size}
 use Rattle.model.specs.Calls.{sheetAfter, sheetAnswer, showing}
 use Rattle.model.specs.Climbing.{hidden}
 use Rattle.model.specs.Laws.Bytes.{records-encode}
+use Rattle.model.specs.Laws.Checks.{answer-done, then-pass}
 use Rattle.model.specs.Laws.Sheet.{sheet-hidden, sheet-shown}
 use Rattle.model.specs.Numbers.{performedAs, refusal}
 use Rattle.model.specs.Observer.{sheet, sheetOf}
-use Rattle.model.specs.Records.{at, gone, records}
-use Rattle.model.specs.Refusals.{Answer, Check, andThen, answer, content, done, need, pass, refuse, refused}
+use Rattle.model.specs.Records.{at, records}
+use Rattle.model.specs.Refusals.{Check, andThen, answer, content, need, pass, refuse}
 use Rattle.model.specs.Tables.{suspects, tableRight}
 use Rattle.model.specs.Validity.{sizeRight, validity}
 use Rattle.model.specs.declared.Performed.{Performed}
@@ -28,7 +29,7 @@ use Rattle.textform.specs.Laws.Nesting.{walk-next}
 use Rattle.textform.specs.Laws.Walking.{bench}
 use Rattle.textform.specs.Lines.{entry}
 use Rattle.textform.specs.Steps.{Bench, Written, front, visitLine}
-use Rattle.textform.specs.Writing.{fits, lineAt, linesOf, listAfter, listAnswer, listLine, listOf, listable, mark, nextFrom, overIf, told, toldAfter, walk, walkFrom}
+use Rattle.textform.specs.Writing.{lineAt, linesOf, listAfter, listAnswer, listLine, listOf, listable, mark, nextFrom, told, toldAfter, walk, walkFrom}
 use Rattle.textform.specs.declared.TextWritten.{TextWritten}
 use Rattle.textform.specs.declared.TextWritten.the-variants.{Refused}
 use Rattle.textform.specs.declared.Visit.{Visit}
@@ -59,20 +60,10 @@ list-lines : (its : List Rec) (S : ℕ → Bool) → linesOf (visitLine true its
 unfolding listOf walk visitLine listLine front
 list-lines its S = lines-same (visitLine true its (sheet its S)) (listLine its (hidden its S)) its (λ v z. ap (λ b. entry (front true (v .number)) (mark b) (lineAt its v)) (hidden-is its S (v .number) z)) _ 0 0
 
-then-pass : (c : Check) → andThen c pass ≡ c
+then-nothing : (c : Check) → andThen c pass ≡ c
 unfolding andThen
-then-pass pass = refl
-then-pass (refuse n r) = refl
-
-answer-done : {A : Type 0} (c : Check) (x y : A) → answer c x ≡ done y → c ≡ pass
-unfolding answer
-answer-done pass x y e = refl
-answer-done (refuse n r) x y e = let u : _≡_ {A = ℕ} 0 1 = cc in absurd (omega arith)
-
-then-first : (a b : Check) → andThen a b ≡ pass → a ≡ pass
-unfolding andThen
-then-first pass b e = refl
-then-first (refuse n r) b e = e
+then-nothing pass = refl
+then-nothing (refuse n r) = refl
 
 module _ (s table t : List ℕ) where
   refuses : (r : Refusal) → listable s table ≡ refuse (r .number) (r .record) → (Refused r ≡ listAnswer s table t) × (t ≡ listAfter s table t)
@@ -82,16 +73,12 @@ module _ (s table t : List ℕ) where
   -- an itinerary that is too long
   pub list-long : 8192 < length s → (Refused (record { number = 1; «record» = 0 }) ≡ listAnswer s table t) × (t ≡ listAfter s table t)
   unfolding listable sizeRight
-  list-long l = refuses _ (then-refuse _ (valid-size s (rw (lt-leb (length s) 8192 l) (wrong (eqb (length s % 8) 0)))))
-    where
-      wrong : (b : Bool) → (b && false) ≡ false
-      wrong true = refl
-      wrong false = refl
+  list-long l = refuses _ (then-refuse _ (valid-size s (rw (lt-leb (length s) 8192 l) (and-false (eqb (length s % 8) 0)))))
 
   module _ (d d′ : List ℕ) (l : length d ≡ length s) (r : Performed) (a : performedAs r ≡ sheetAnswer s table d) (b : d′ ≡ sheetAfter s table d) where
     showing-is : showing s table d ≡ listable s table
     unfolding showing listable need
-    showing-is = rw (eq-eqb _ _ l) (rw (then-pass (need (tableRight table) 8 0)))
+    showing-is = rw (eq-eqb _ _ l) (rw (then-nothing (need (tableRight table) 8 0)))
 
     pub list-refused : {x : Refusal} → r ≡ performed.Refused x → (Refused x ≡ listAnswer s table t) × (t ≡ listAfter s table t)
     unfolding performedAs refusal sheetAnswer
@@ -104,7 +91,7 @@ module _ (s table t : List ℕ) where
 
       pub list-valid : validity s ≡ pass
       unfolding showing
-      list-valid = then-first _ _ shown
+      list-valid = then-pass _ _ shown .0
 
       sheet-records : records d′ ≡ sheet (records s) (suspects table)
       unfolding sheetAfter sheetOf content

@@ -4,15 +4,14 @@ use borrow.Author.Tests.{eq-eqb, ne-eqb}
 use lib.Dec.{eqb}
 use lib.ListN.{getD, length, length-replicate, length-set, set}
 use lib.Seq.{getD-set-other, getD-set-same}
-use mathlib.Core.Bool.{Bool, _&&_, false, not, true}
+use mathlib.Core.Bool.{false, not, true, and-false}
 use mathlib.Core.List.{List, [], _∷_, map}
 use mathlib.Core.Logic.{_≢_, _⊎_, inl, inr}
-use mathlib.Core.Option.{none, some}
+use mathlib.Core.Option.{none}
 use mathlib.Core.Path.{_∙_, _≡_, ap, refl, sym}
 use native.Mathlib.Decide.{decLe, ℕ-discrete}
 use native.Mathlib.Omega.{arith}
 use Rattle.itinerary.specs.Laws.{getD-zero}
-use Rattle.model.specs.Finite.{lowest}
 use Rattle.model.specs.Laws.Finite.{lowest-make, lowest-nothing}
 use Rattle.model.specs.Records.{at, gone, parentOf}
 use Rattle.model.specs.Validity.{labelIn}
@@ -20,7 +19,6 @@ use Rattle.model.specs.declared.Rec.{Rec}
 use Rattle.textform.specs.Reading.{noneAbove, placed, placedFrom, recordOf}
 use Rattle.textform.specs.Writing.{childAfter, childOr, isChild, lineAt, nextFrom, orZero, walk, walkFrom}
 use Rattle.textform.specs.declared.Line.{Line}
-use Rattle.textform.specs.declared.Visit.{Visit}
 
 -- a line whose kind, label and name fit together
 pub record Right (l : Line) : Type 0 where
@@ -95,11 +93,7 @@ child-is its p j k e = rw (ne-eqb _ _ k, eq-eqb _ _ e)
 
 child-not : (its : List Rec) (p j : ℕ) → parentOf its j ≢ p → isChild its p j ≡ false
 unfolding isChild
-child-not its p j e = rw (ne-eqb _ _ e) (go (not (eqb (at its j .kind) 0)))
-  where
-    go : (b : Bool) → (b && false) ≡ false
-    go true = refl
-    go false = refl
+child-not its p j e = rw (ne-eqb _ _ e) (and-false (not (eqb (at its j .kind) 0)))
 
 -- the next child is number k
 child-found : (its : List Rec) (p after k : ℕ) → after < k → k ≤ length its → isChild its p k ≡ true → ((j : ℕ) → after < j → j < k → isChild its p j ≡ false) → childAfter its p after ≡ k

@@ -6,12 +6,10 @@ use mathlib.Core.List.{List, [], _∷_}
 use mathlib.Core.Logic.{_≢_}
 use mathlib.Core.Option.{Option, none, some}
 use mathlib.Core.Path.{_∙_, _≡_, ap, refl, sym}
-use native.Mathlib.Numerals.{add-one}
 use native.Mathlib.Omega.{arith}
 use Rattle.itinerary.specs.Written.{withRecord, written, written-length, written-next, written-none}
 use Rattle.model.specs.Laws.Bytes.{length-encode}
 use Rattle.model.specs.Records.{at, encode, gone}
-use Rattle.model.specs.declared.Rec.{Rec}
 use Rattle.textform.specs.Laws.Lines.{Got, line-good, scan-bad, scan-good, scan-nested}
 use Rattle.textform.specs.Laws.Nesting.{length-placed, none-length}
 use Rattle.textform.specs.Laws.Putting.{splice-over}
@@ -205,7 +203,6 @@ module _ (text it scratch : List ℕ) (room : ℕ) (got : TextRead) (m : room �
     head : take (8 * n) (scanned (scan room text) scratch) ≡ encode (placed (scan room text .lines))
     unfolding scanned written
     head =
-        let ls = scan room text .lines in
         let k : length (placed (scan room text .lines)) ≤ length (scan room text .lines) = omega (arith, length-all (scan room text .lines)) in
         let u : length (encode (placed (scan room text .lines))) ≡ 8 * n = length-encode _ ∙ omega (arith, length-all (scan room text .lines), whole .1) in
         rw (take-all (length (scan room text .lines)) (placed (scan room text .lines)) k) (take-at (encode (placed (scan room text .lines))) _ (8 * n) u)

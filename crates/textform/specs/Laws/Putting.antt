@@ -1,8 +1,8 @@
 -- Bytes put at a place.
-use Prim.Native.Nat.{_%_, _*_, _+_, _-_, _/_, _<_, _≤_, suc, zero, ℕ}
-use lib.ListN.{drop, getD, length, length-append, length-drop, length-replicate, replicate, replicate-append-replicate, set, take, take-append-drop}
-use lib.Seq.{drop-append-add, drop-at, drop-drop, length-take-le, paste, paste-suc, set-split, take-all, take-append-le, take-at}
-use mathlib.Core.List.{List, [], _++_, _∷_, append-assoc, append-nil}
+use Prim.Native.Nat.{_%_, _*_, _+_, _/_, _<_, _≤_, suc, zero, ℕ}
+use lib.ListN.{drop, getD, length, length-append, length-replicate, replicate, replicate-append-replicate, set, take, take-append-drop}
+use lib.Seq.{drop-append-add, drop-drop, length-take-le, paste, paste-suc, set-split, take-all, take-at}
+use mathlib.Core.List.{List, [], _++_, _∷_, append-assoc}
 use mathlib.Core.Logic.{_≢_}
 use mathlib.Core.Bool.{Bool, false, true}
 use mathlib.Core.Path.{_∙_, _≡_, ap, refl, sym}
@@ -29,10 +29,6 @@ module _ (t : List ℕ) (p : ℕ) (w : List ℕ) where
 
   pub put-all : (i : ℕ) → length w ≤ i → splice p (take i w) t ≡ splice p w t
   put-all i l = ap (λ x. splice p x t) (take-all i w l)
-
-  pub length-splice : p + length w ≤ length t → length (splice p w t) ≡ length t
-  unfolding splice
-  length-splice h = simp length-append (omega (arith, length-take-le p t (omega arith), length-drop (p + length w) t))
 
   -- bytes put after bytes that were put
   pub splice-splice : (v : List ℕ) (q : ℕ) → q ≡ p + length w → q + length v ≤ length t → splice q v (splice p w t) ≡ splice p (w ++ v) t

@@ -1,16 +1,16 @@
 -- Reading, a byte at a time: what each test of the code decides.
-use Prim.Native.Nat.{_%_, _*_, _+_, _-_, _/_, _<_, _≤_, suc, zero, ℕ}
+use Prim.Native.Nat.{_%_, _+_, _-_, _/_, _<_, _≤_, suc, ℕ}
 use borrow.Author.Tests.{eq-eqb, leb-true, le-leb, lt-leb, ne-eqb}
-use lib.Dec.{eqb, leb}
+use lib.Dec.{eqb}
 use lib.ListN.{List·getD-eq-default, drop, drop-of-length-le, getD, length, length-drop, take}
 use lib.Seq.{drop-cons, take-all}
-use mathlib.Core.Bool.{Bool, _&&_, false, true, true≢false}
-use mathlib.Core.List.{List, [], _++_, _∷_}
+use mathlib.Core.Bool.{Bool, false, true, true≢false}
+use mathlib.Core.List.{List, [], _∷_}
 use mathlib.Core.Logic.{_≢_}
 use mathlib.Core.Path.{_∙_, _≡_, ap, refl, sym}
 use native.Mathlib.Decide.{decLt, ℕ-discrete}
 use native.Mathlib.Omega.{arith}
-use Rattle.model.specs.Laws.WellFormed.{and-left, and-right}
+use Rattle.model.specs.Laws.WellFormed.{and-left}
 use Rattle.model.specs.Records.{byte}
 use Rattle.model.specs.Validity.{labelIn}
 use Rattle.textform.specs.Laws.Lines.{numeral-0, numeral-1, numeral-2, numeral-3}
@@ -18,7 +18,6 @@ use Rattle.textform.specs.Lines.{ambientWord, inWord, openWord, outWord}
 use Rattle.textform.specs.Reading.{demand, digit, ended, labelled, lineRead, named, numeral, numeralOf, spaces, starts, worded}
 use Rattle.textform.specs.declared.Decimal.{Decimal}
 use Rattle.textform.specs.declared.Line.{Line}
-use Rattle.textform.specs.declared.LineRead.{LineRead}
 use Rattle.textform.specs.declared.LineRead.the-variants.{Bad, Good}
 
 module _ (s : List ℕ) (i : ℕ) where

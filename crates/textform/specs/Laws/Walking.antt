@@ -1,21 +1,19 @@
 -- The writers' loops: the next child, the next record to visit, the length of all lines, and the lines written.
-use Prim.Native.Nat.{_%_, _*_, _+_, _-_, _/_, _<_, _≤_, suc, zero, ℕ}
+use Prim.Native.Nat.{_*_, _+_, _-_, _/_, _<_, _≤_, suc, zero, ℕ}
 use borrow.Author.Tests.{le-leb, lt-leb}
 use lib.Dec.{eqb, leb}
 use lib.ListN.{length, length-append}
-use mathlib.Core.Bool.{Bool, _&&_, false, not, true}
+use mathlib.Core.Bool.{Bool, _&&_, false, true}
 use mathlib.Core.List.{List, [], _++_, _∷_, map}
 use mathlib.Core.Logic.{_≢_}
-use mathlib.Core.Option.{none, some}
 use mathlib.Core.Path.{_∙_, _≡_, ap, refl, sym}
 use native.Mathlib.Decide.{decLe}
-use native.Mathlib.Numerals.{add-one}
 use native.Mathlib.Omega.{arith}
 use Rattle.itinerary.specs.Laws.{valid-few, valid-whole}
 use Rattle.model.specs.Finite.{lowest, unequal}
 use Rattle.model.specs.Laws.Bytes.{at-whole, length-records}
 use Rattle.model.specs.Listing.{digitsIn, field}
-use Rattle.model.specs.Records.{at, count, decode, parentOf, records}
+use Rattle.model.specs.Records.{at, count, decode, records}
 use Rattle.model.specs.Refusals.{content, pass, refuse}
 use Rattle.model.specs.Validity.{validity}
 use Rattle.model.specs.declared.Rec.{Rec}
@@ -23,11 +21,10 @@ use Rattle.model.specs.declared.Refusal.{Refusal}
 use Rattle.textform.specs.Laws.Identity.{next-visited, walk-end}
 use Rattle.textform.specs.Laws.Lines.{digits-high, digits-low}
 use Rattle.textform.specs.Laws.Nesting.{walk-next}
-use Rattle.textform.specs.Laws.Putting.{entry-length, fields-length, length-splice, splice-nil, splice-over, splice-splice}
+use Rattle.textform.specs.Laws.Putting.{entry-length, fields-length, splice-nil, splice-over, splice-splice}
 use Rattle.textform.specs.Lines.{ambientWord, entry, hiddenWord, inWord, kindWord, lineBytes, openWord, outWord, over, render, splice}
-use Rattle.textform.specs.Steps.{Bench, Put, Written, fields, front, visitLine}
+use Rattle.textform.specs.Steps.{Bench, Put, Written, front, visitLine}
 use Rattle.textform.specs.Writing.{childAfter, childOr, fits, isChild, lineAt, linesOf, mark, nextFrom, orZero, overIf, textOf, told, toldAfter, walk, walkFrom, writeAfter, writeAnswer}
-use Rattle.textform.specs.declared.Line.{Line}
 use Rattle.textform.specs.declared.TextWritten.{TextWritten}
 use Rattle.textform.specs.declared.TextWritten.the-variants.{Length, NoRoom, Refused}
 use Rattle.textform.specs.declared.Visit.{Visit}
@@ -142,8 +139,6 @@ front-short false n = omega arith
 pub visit-short : (listed : Bool) (its shown : List Rec) (v : Visit) → v .depth ≤ 1024 → length (visitLine listed its shown v) ≤ 2100
 unfolding visitLine lineAt
 visit-short listed its shown v h =
-    let f = front listed (v .number) in
-    let b = mark (listed && eqb (at shown (v .number) .kind) 0) in
     omega (arith, entry-length (front listed (v .number)) (mark (listed && eqb (at shown (v .number) .kind) 0)) (lineAt its v), fields-length (lineAt its v), front-short listed (v .number), mark-short (listed && eqb (at shown (v .number) .kind) 0), word-short (at its (v .number) .kind), digits-few 5 (at its (v .number) .label), digits-few 5 (at its (v .number) .name))
 
 -- the lines left, from record p on
@@ -200,7 +195,6 @@ module _ (f : Visit → List ℕ) (its : List Rec) (left p d : ℕ) (v : Visit) 
 
   pub fill-on : {t₀ t t′ : List ℕ} {q q′ : ℕ} → Filling f its t₀ t left p d q → 0 < left → v .number ≢ 0 → length t′ ≡ length t → Put t q (f v) t′ q′ → Filling f its t₀ t′ (left - 1) (v .number) (v .depth + 1) q′
   fill-on {t₀} {t} {t′} {q} {q′} w l z k y =
-      let R = ahead f its (left - 1) (v .number) (v .depth + 1) in
       let h : q′ + length (ahead f its (left - 1) (v .number) (v .depth + 1)) ≤ length t = omega (arith, w .room, y .end, ap length (ahead-on l z), length-append (f v) (ahead f its (left - 1) (v .number) (v .depth + 1))) in
       record {
         shallow = omega (arith, w .shallow, visit-deep its left p d v e);
