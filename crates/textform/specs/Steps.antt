@@ -7,11 +7,11 @@ use mathlib.Core.List.{List, [], _++_}
 use mathlib.Core.Path.{_≡_}
 use Rattle.itinerary.specs.Written.{written}
 use Rattle.model.specs.Listing.{digitsIn, field}
-use Rattle.model.specs.Records.{at}
+use Rattle.model.specs.Records.{at, records}
 use Rattle.model.specs.declared.Rec.{Rec}
 use Rattle.textform.specs.Lines.{entry, kindWord, splice}
 use Rattle.textform.specs.Reading.{Scan, placed}
-use Rattle.textform.specs.Writing.{fits, lineAt, mark, overIf}
+use Rattle.textform.specs.Writing.{fits, lineAt, linesOf, mark, overIf, walk}
 use Rattle.textform.specs.declared.Line.{Line}
 use Rattle.textform.specs.declared.TextWritten.{TextWritten}
 use Rattle.textform.specs.declared.Visit.{Visit}
@@ -43,6 +43,10 @@ fields l = kindWord (l .kind) ++ field (l .label) (digitsIn 5 (l .name))
 -- the line of a record, in a listing or not; hidden where it is gone among those shown
 unfoldable pub visitLine : Bool → List Rec → List Rec → Visit → List ℕ
 visitLine listed its shown v = entry (front listed (v .number)) (mark (listed && eqb (at shown (v .number) .kind) 0)) (lineAt its v)
+
+-- the lines of all records of the bytes s, in a listing or not; the bytes sheet have those shown
+abbrev pub wholeText : Bool → List ℕ → List ℕ → List ℕ
+wholeText listed s sheet = linesOf (visitLine listed (records s) (records sheet)) (walk (records s))
 
 -- whole records, at most 1,024 of them
 pub record Bench (s : List ℕ) : Type 0 where

@@ -14,8 +14,8 @@ ghost use Rattle.model.specs.Records.{byte, records};
 ghost use Rattle.model.specs.Validity.{labelIn};
 ghost use Rattle.textform.specs.Lines.{entry, kindWord, over};
 ghost use Rattle.textform.specs.Reading.{causeOf, digit, ended, labelled, lineRead, named, noneAbove, numeral, numeralOf, readAfter, readAnswer, recordOf, scan, scanAnswer, spaces, starts, worded};
-ghost use Rattle.textform.specs.Steps.{Bench, Placeable, Put, Written, fields, front, scanned, visitLine};
-ghost use Rattle.textform.specs.Writing.{childAfter, linesOf, listAfter, listAnswer, mark, nextFrom, walk, writeAfter, writeAnswer};
+ghost use Rattle.textform.specs.Steps.{Bench, Placeable, Put, Written, fields, front, scanned, visitLine, wholeText};
+ghost use Rattle.textform.specs.Writing.{childAfter, listAfter, listAnswer, mark, nextFrom, writeAfter, writeAnswer};
 
 // A line of the text form: how far it is indented, and the record's kind, label and name.
 pub struct Line {
@@ -499,7 +499,8 @@ fn next(it: &[u8], p: u16, d: usize) -> Visit
 fn put_visit(text: &mut [u8], at: usize, it: &[u8], sheet: &[u8], listed: bool, v: Visit) -> usize
     requires { ⌜ (Bench (now it)) × (Bench (now sheet)) × (v .depth ≤ 1024)
         × (at + length (visitLine listed (records (now it)) (records (now sheet)) v) ≤ length (now text)) ⌝ }
-    ensures { λ r. ⌜ Put (now (text .entry)) at (visitLine listed (records (now (it .entry))) (records (now (sheet .entry))) v) (now (text .exit)) r ⌝ }
+    ensures { λ r. ⌜ Put (now (text .entry)) at (visitLine listed (records (now (it .entry))) (records (now (sheet .entry))) v)
+        (now (text .exit)) r ⌝ }
 {
     let number = v.number;
     let r = itinerary::record_at(it, number);
@@ -516,7 +517,7 @@ fn put_visit(text: &mut [u8], at: usize, it: &[u8], sheet: &[u8], listed: bool, 
 // How long the text of an itinerary is, line by line; inner.
 fn measure(it: &[u8], sheet: &[u8], listed: bool, line: &mut [u8]) -> usize
     requires { ⌜ (Bench (now it)) × (Bench (now sheet)) × (length (now line) ≡ 2100) ⌝ }
-    ensures { λ r. ⌜ r ≡ length (linesOf (visitLine listed (records (now (it .entry))) (records (now (sheet .entry)))) (walk (records (now (it .entry))))) ⌝ }
+    ensures { λ r. ⌜ r ≡ length (wholeText listed (now (it .entry)) (now (sheet .entry))) ⌝ }
 {
     let mut left = (it.len() / 8) as u16;
     let mut p: u16 = 0;
@@ -538,8 +539,8 @@ fn measure(it: &[u8], sheet: &[u8], listed: bool, line: &mut [u8]) -> usize
 // Writes the text of an itinerary, line by line; inner.
 fn fill(it: &[u8], sheet: &[u8], listed: bool, text: &mut [u8])
     requires { ⌜ (Bench (now it)) × (Bench (now sheet))
-        × (length (linesOf (visitLine listed (records (now it)) (records (now sheet))) (walk (records (now it)))) ≤ length (now text)) ⌝ }
-    ensures { λ _. ⌜ now (text .exit) ≡ over (linesOf (visitLine listed (records (now (it .entry))) (records (now (sheet .entry)))) (walk (records (now (it .entry))))) (now (text .entry)) ⌝ }
+        × (length (wholeText listed (now it) (now sheet)) ≤ length (now text)) ⌝ }
+    ensures { λ _. ⌜ now (text .exit) ≡ over (wholeText listed (now (it .entry)) (now (sheet .entry))) (now (text .entry)) ⌝ }
 {
     let mut left = (it.len() / 8) as u16;
     let mut p: u16 = 0;
@@ -560,7 +561,7 @@ fn fill(it: &[u8], sheet: &[u8], listed: bool, text: &mut [u8])
 // Writes the text where there is room for it; inner.
 fn write_by(it: &[u8], sheet: &[u8], listed: bool, text: &mut [u8]) -> TextWritten
     requires { ⌜ (Bench (now it)) × (Bench (now sheet)) ⌝ }
-    ensures { λ r. ⌜ Written (linesOf (visitLine listed (records (now (it .entry))) (records (now (sheet .entry)))) (walk (records (now (it .entry))))) (now (text .entry)) (now (text .exit)) r ⌝ }
+    ensures { λ r. ⌜ Written (wholeText listed (now (it .entry)) (now (sheet .entry))) (now (text .entry)) (now (text .exit)) r ⌝ }
 {
     let mut line = [0u8; 2100];
     let n = measure(it, sheet, listed, &mut line);
@@ -573,7 +574,8 @@ fn write_by(it: &[u8], sheet: &[u8], listed: bool, text: &mut [u8]) -> TextWritt
 
 // Writes the text form of an itinerary after refusals 1 to 6; a text with no room for it stays as it was.
 pub fn write_text(it: &[u8], text: &mut [u8]) -> TextWritten
-    ensures { λ r. ⌜ (r ≡ writeAnswer (now (it .entry)) (now (text .entry))) × (now (text .exit) ≡ writeAfter (now (it .entry)) (now (text .entry))) ⌝ }
+    ensures { λ r. ⌜ (r ≡ writeAnswer (now (it .entry)) (now (text .entry)))
+        × (now (text .exit) ≡ writeAfter (now (it .entry)) (now (text .entry))) ⌝ }
 {
     match itinerary::validate(it) {
         Validated::Refused(r) => TextWritten::Refused(r),
