@@ -8,3 +8,4 @@ pub mod Placing
 pub mod Putting
 pub mod Walking
 pub mod Listing
+pub mod Examples
