@@ -72,9 +72,9 @@ pub fn last(n: u64) {
     text(b"\n");
 }
 
-// The one line of a refusal: number, record.
-pub fn refused(r: Refusal) {
-    text(b"refused ");
+// The one line of a refusal: its word, number, record.
+pub fn refusal(word: &[u8], r: Refusal) {
+    text(word);
     field(r.number as u64);
     last(r.record as u64);
 }

@@ -1,6 +1,7 @@
 // Reads itinerary.bin and policy.bin, makes the table, and lists the itinerary as a tree in which what the observer's
 // sheet hides is marked, or writes the line of a refusal.
 use model::Made;
+use model::Refusal;
 use textform::TextWritten;
 
 // Room for the longest listing of 1,024 lines.
@@ -8,9 +9,13 @@ fn room() -> [u8; 1074176] {
     [0u8; 1074176]
 }
 
+fn show_refusal(r: Refusal) {
+    files::refusal(b"refused ", r);
+}
+
 fn list(it: &[u8], table: &[u8], text: &mut [u8]) {
     match textform::list_text(it, table, text) {
-        TextWritten::Refused(r) => files::refused(r),
+        TextWritten::Refused(r) => show_refusal(r),
         TextWritten::Length(len) => files::first(text, len),
         TextWritten::NoRoom(_) => {}
     }
@@ -25,7 +30,7 @@ fn list_made(it: &[u8], n: usize, policy: &[u8], p: usize, table: &mut [u8], tex
         return;
     }
     match analysis::make(&it[..n], &policy[..p], table) {
-        Made::Refused(r) => files::refused(r),
+        Made::Refused(r) => show_refusal(r),
         Made::Done(_) => list(&it[..n], table, text),
     }
 }

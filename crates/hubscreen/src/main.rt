@@ -1,4 +1,5 @@
 // Screens itinerary.bin under policy.bin, runs script.bin, and writes the verdict, each step's answer and the end.
+use model::Refusal;
 use model::Screen;
 use model::Screened;
 use model::Verdict;
@@ -64,6 +65,10 @@ fn show_end(s: Screen) {
     files::last(s.left as u64);
 }
 
+fn show_refusal(r: Refusal) {
+    files::refusal(b"refused ", r);
+}
+
 fn show_screen(s: Screen, script: &[u8], answers: &[u8]) {
     let v = s.verdict;
     show_verdict(v);
@@ -96,7 +101,7 @@ fn screen_parts(
         return;
     }
     match screen::screen(&mut it[..i], &policy[..p], &script[..z], &mut answers[..n]) {
-        Screened::Refused(r) => files::refused(r),
+        Screened::Refused(r) => show_refusal(r),
         Screened::Done(s) => show_screen(s, &script[..z], &answers[..n]),
     }
 }

@@ -1,9 +1,14 @@
 // Reads itinerary.bin and writes the text form of the itinerary, or the line of its refusal.
+use model::Refusal;
 use textform::TextWritten;
 
 // Room for the longest text of 1,024 lines.
 fn room() -> [u8; 1061888] {
     [0u8; 1061888]
+}
+
+fn show_refusal(r: Refusal) {
+    files::refusal(b"refused ", r);
 }
 
 // Converts the first n bytes. (The test is there for the proof that they exist.)
@@ -12,7 +17,7 @@ fn convert(it: &[u8], n: usize, text: &mut [u8]) {
         return;
     }
     match textform::write_text(&it[..n], text) {
-        TextWritten::Refused(r) => files::refused(r),
+        TextWritten::Refused(r) => show_refusal(r),
         TextWritten::Length(len) => files::first(text, len),
         TextWritten::NoRoom(_) => {}
     }

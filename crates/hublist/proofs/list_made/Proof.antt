@@ -24,8 +24,8 @@ make-requires c κs = search needs
 enum-known-r : tie.Need-enum-known-r
 enum-known-r c = search needs
 
-refused-requires : tie.Need-refused-requires
-refused-requires c κs = search needs
+show-refusal-requires : tie.Need-show-refusal-requires
+show-refusal-requires c κs = search needs
 
 enum-told : tie.Need-enum-told
 enum-told c = search needs
@@ -61,7 +61,7 @@ list-made-spec =
     slice-aggregate-make-2
     make-requires
     enum-known-r
-    refused-requires
+    show-refusal-requires
     enum-told
     slice-aggregate-list
     list-requires

@@ -55,8 +55,8 @@ enum-known-r : tie.Need-enum-known-r
 enum-known-r c = search needs
 
 -- src/main.rt:169:33
-refused-requires : tie.Need-refused-requires
-refused-requires c κs = search needs
+show-refusal-requires : tie.Need-show-refusal-requires
+show-refusal-requires c κs = search needs
 
 -- src/main.rt:170:24
 enum-known-s : tie.Need-enum-known-s
@@ -118,7 +118,7 @@ screen-parts-spec =
     slice-aggregate-screen-4
     screen-requires
     enum-known-r
-    refused-requires
+    show-refusal-requires
     enum-known-s
     slice-aggregate-show-screen
     slice-reshare-prefix-show-screen

@@ -18,8 +18,8 @@ write-text-requires c κs = search needs
 enum-known-r : tie.Need-enum-known-r
 enum-known-r c = search needs
 
-refused-requires : tie.Need-refused-requires
-refused-requires c κs = search needs
+show-refusal-requires : tie.Need-show-refusal-requires
+show-refusal-requires c κs = search needs
 
 enum-known-len : tie.Need-enum-known-len
 enum-known-len c = search needs
@@ -56,7 +56,7 @@ convert-spec =
     slice-aggregate-write-text
     write-text-requires
     enum-known-r
-    refused-requires
+    show-refusal-requires
     enum-known-len
     first-requires
     enum-told
