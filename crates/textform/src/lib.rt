@@ -14,7 +14,7 @@ ghost use Rattle.model.specs.Records.{byte, records};
 ghost use Rattle.model.specs.Validity.{labelIn};
 ghost use Rattle.textform.specs.Lines.{entry, kindWord, over};
 ghost use Rattle.textform.specs.Reading.{causeOf, digit, ended, labelled, lineRead, named, noneAbove, numeral, numeralOf, readAfter, readAnswer, recordOf, scan, scanAnswer, spaces, starts, worded};
-ghost use Rattle.textform.specs.Steps.{Bench, Placeable, Put, Written, fields, front, scanned, visitLine, wholeText};
+ghost use Rattle.textform.specs.Inner.{Whole, Placeable, Put, Written, fields, front, scanned, visitLine, wholeText};
 ghost use Rattle.textform.specs.Writing.{childAfter, listAfter, listAnswer, mark, nextFrom, writeAfter, writeAnswer};
 
 // A line of the text form: how far it is indented, and the record's kind, label and name.
@@ -453,7 +453,7 @@ fn put_entry(
 
 // The lowest child of p with a number over after, 0 where there is none; inner.
 fn child_after(it: &[u8], p: u16, after: u16) -> u16
-    requires { ⌜ Bench (now it) ⌝ }
+    requires { ⌜ Whole (now it) ⌝ }
     ensures { λ r. ⌜ r ≡ childAfter (records (now (it .entry))) p after ⌝ }
 {
     let n = (it.len() / 8) as u16;
@@ -470,7 +470,7 @@ fn child_after(it: &[u8], p: u16, after: u16) -> u16
 
 // The record to visit after record p, whose children stand at depth d; inner.
 fn next(it: &[u8], p: u16, d: usize) -> Visit
-    requires { ⌜ Bench (now it) ⌝ }
+    requires { ⌜ Whole (now it) ⌝ }
     ensures { λ v. ⌜ v ≡ nextFrom (records (now (it .entry))) d p 0 ⌝ }
 {
     let mut q = p;
@@ -497,7 +497,7 @@ fn next(it: &[u8], p: u16, d: usize) -> Visit
 
 // Puts the line of a record that is visited; inner. In a listing it is marked where the sheet hides it.
 fn put_visit(text: &mut [u8], at: usize, it: &[u8], sheet: &[u8], listed: bool, v: Visit) -> usize
-    requires { ⌜ (Bench (now it)) × (Bench (now sheet)) × (v .depth ≤ 1024)
+    requires { ⌜ (Whole (now it)) × (Whole (now sheet)) × (v .depth ≤ 1024)
         × (at + length (visitLine listed (records (now it)) (records (now sheet)) v) ≤ length (now text)) ⌝ }
     ensures { λ r. ⌜ Put (now (text .entry)) at (visitLine listed (records (now (it .entry))) (records (now (sheet .entry))) v)
         (now (text .exit)) r ⌝ }
@@ -516,7 +516,7 @@ fn put_visit(text: &mut [u8], at: usize, it: &[u8], sheet: &[u8], listed: bool, 
 
 // How long the text of an itinerary is, line by line; inner.
 fn measure(it: &[u8], sheet: &[u8], listed: bool, line: &mut [u8]) -> usize
-    requires { ⌜ (Bench (now it)) × (Bench (now sheet)) × (length (now line) ≡ 2100) ⌝ }
+    requires { ⌜ (Whole (now it)) × (Whole (now sheet)) × (length (now line) ≡ 2100) ⌝ }
     ensures { λ r. ⌜ r ≡ length (wholeText listed (now (it .entry)) (now (sheet .entry))) ⌝ }
 {
     let mut left = (it.len() / 8) as u16;
@@ -538,7 +538,7 @@ fn measure(it: &[u8], sheet: &[u8], listed: bool, line: &mut [u8]) -> usize
 
 // Writes the text of an itinerary, line by line; inner.
 fn fill(it: &[u8], sheet: &[u8], listed: bool, text: &mut [u8])
-    requires { ⌜ (Bench (now it)) × (Bench (now sheet))
+    requires { ⌜ (Whole (now it)) × (Whole (now sheet))
         × (length (wholeText listed (now it) (now sheet)) ≤ length (now text)) ⌝ }
     ensures { λ _. ⌜ now (text .exit) ≡ over (wholeText listed (now (it .entry)) (now (sheet .entry))) (now (text .entry)) ⌝ }
 {
@@ -560,7 +560,7 @@ fn fill(it: &[u8], sheet: &[u8], listed: bool, text: &mut [u8])
 
 // Writes the text where there is room for it; inner.
 fn write_by(it: &[u8], sheet: &[u8], listed: bool, text: &mut [u8]) -> TextWritten
-    requires { ⌜ (Bench (now it)) × (Bench (now sheet)) ⌝ }
+    requires { ⌜ (Whole (now it)) × (Whole (now sheet)) ⌝ }
     ensures { λ r. ⌜ Written (wholeText listed (now (it .entry)) (now (sheet .entry))) (now (text .entry)) (now (text .exit)) r ⌝ }
 {
     let mut line = [0u8; 2100];

@@ -74,7 +74,9 @@ put-number-put-number-requires : (t : ℕ) → put-number-lts.Need-put-number-re
   put-number-below t,
   put-number.Post,
 ) (put-number-at t) put-number.Post
-put-number-put-number-requires t c κs = (omega (arith, c .before .before .before .pre .0), omega (arith, c .before .before .before .pre .1, ap length (digits-next (c .before .before .before .args .n) (c .before .if1 .left) (c .before .before .before .fits .n .fits)), length-append (digitsIn 5 (c .before .before .before .args .n / 10)) ((48 + c .before .before .before .args .n % 10) ∷ [])))
+put-number-put-number-requires t c κs =
+    let args = c .before .before .before .args in
+    (omega (arith, c .before .before .before .pre .0), omega (arith, c .before .before .before .pre .1, ap length (digits-next (args .n) (c .before .if1 .left) (c .before .before .before .fits .n .fits)), length-append (digitsIn 5 (args .n / 10)) ((48 + args .n % 10) ∷ [])))
 
 put-number-add-put-byte-2 : (t : ℕ) → put-number-lts.Need-add-put-byte-2 (
   put-byte-reads.Asked,
@@ -98,7 +100,10 @@ put-number-put-byte-requires-2 : (t : ℕ) → put-number-lts.Need-put-byte-requ
   put-number-below t,
   put-number.Post,
 ) (put-number-at t) put-number.Post
-put-number-put-byte-requires-2 t c κs = omega (arith, c .before .before .before .before .before .before .before .pre .1, c .before .before .before .put-number .ensures .end, c .before .before .before .put-number .kept .0, ap length (digits-next (c .before .before .before .before .before .before .before .args .n) (c .before .before .before .before .before .if1 .left) (c .before .before .before .before .before .before .before .fits .n .fits)), length-append (digitsIn 5 (c .before .before .before .before .before .before .before .args .n / 10)) ((48 + c .before .before .before .before .before .before .before .args .n % 10) ∷ []))
+put-number-put-byte-requires-2 t c κs =
+    let args = c .before .before .before .before .before .before .before .args in
+    let put-number₁ = c .before .before .before .put-number in
+    omega (arith, c .before .before .before .before .before .before .before .pre .1, put-number₁ .ensures .end, put-number₁ .kept .0, ap length (digits-next (args .n) (c .before .before .before .before .before .if1 .left) (c .before .before .before .before .before .before .before .fits .n .fits)), length-append (digitsIn 5 (args .n / 10)) ((48 + args .n % 10) ∷ []))
 
 put-number-same-length-2 : (t : ℕ) → put-number-lts.Need-same-length-2 (
   put-byte-reads.Asked,
@@ -114,7 +119,12 @@ put-number-returns-2 : (t : ℕ) → put-number-lts.Need-returns-2 (
   put-number-below t,
   put-number.Post,
 ) (put-number-at t) put-number.Post
-put-number-returns-2 t c = put-as (sym (digits-next (c .before .before .before .before .before .before .before .before .before .before .args .n) (c .before .before .before .before .before .before .before .before .if1 .left) (c .before .before .before .before .before .before .before .before .before .before .fits .n .fits))) (put-then (c .before .before .before .before .before .before .put-number .ensures) (c .before .before .put-byte2 .ensures) (omega (arith, c .before .before .before .before .before .before .put-number .ensures .end, c .before .before .put-byte2 .ensures .end, c .before .before .before .before .before .before .before .before .before .before .pre .1, ap length (digits-next (c .before .before .before .before .before .before .before .before .before .before .args .n) (c .before .before .before .before .before .before .before .before .if1 .left) (c .before .before .before .before .before .before .before .before .before .before .fits .n .fits)), length-append (digitsIn 5 (c .before .before .before .before .before .before .before .before .before .before .args .n / 10)) ((48 + c .before .before .before .before .before .before .before .before .before .before .args .n % 10) ∷ []))))
+put-number-returns-2 t c =
+    let args = c .before .before .before .before .before .before .before .before .before .before .args in
+    let fits = c .before .before .before .before .before .before .before .before .before .before .fits in
+    let if1 = c .before .before .before .before .before .before .before .before .if1 in
+    let put-number₁ = c .before .before .before .before .before .before .put-number in
+    put-as (sym (digits-next (args .n) (if1 .left) (fits .n .fits))) (put-then (put-number₁ .ensures) (c .before .before .put-byte2 .ensures) (omega (arith, put-number₁ .ensures .end, c .before .before .put-byte2 .ensures .end, c .before .before .before .before .before .before .before .before .before .before .pre .1, ap length (digits-next (args .n) (if1 .left) (fits .n .fits)), length-append (digitsIn 5 (args .n / 10)) ((48 + args .n % 10) ∷ []))))
 
 pub +put-number-spec : {M : Type 1} → statement M
 +put-number-spec = close μ-put-number λ t. put-number-lts.spec (

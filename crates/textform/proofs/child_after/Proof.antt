@@ -5,7 +5,7 @@ use lib.ListN.{length}
 use mathlib.Core.Path.{_∙_, _≡_, refl, sym}
 use native.Mathlib.Omega.{arith}
 use Rattle.model.specs.Records.{records}
-use Rattle.textform.specs.Laws.Walking.{at-is, bench-count, child-end, child-hit, child-step, child-test}
+use Rattle.textform.specs.Laws.Walking.{at-is, whole-count, child-end, child-hit, child-step, child-test}
 use Rattle.textform.specs.Writing.{childAfter}
 use Rattle.textform.proofs.child_after.Statement.{statement}
 use Rattle.textform.proofs.child_after.Tie as tie
@@ -32,7 +32,10 @@ add-result : tie.Need-add-result Inv-loop μ-loop
 add-result c = omega (arith, c .before .before .before .before .before .loop .inv .1)
 
 returns : tie.Need-returns Inv-loop μ-loop
-returns c = sym (c .before .before .before .before .before .loop .inv .2 ∙ child-hit _ _ _ (omega (arith, c .before .before .before .before .before .loop .inv .0, c .before .before .before .before .loop-test .taken, bench-count (c .before .before .before .before .before .before .before .args .it .now))) (child-test _ _ _ (c .before .before .before .record-at .result) (at-is (c .before .before .before .before .before .before .before .pre) _ _ (c .before .before .before .record-at .ensures)) (c .if1 .taken)))
+returns c =
+    let loop = c .before .before .before .before .before .loop in
+    let record-at = c .before .before .before .record-at in
+    sym (loop .inv .2 ∙ child-hit _ _ _ (omega (arith, loop .inv .0, c .before .before .before .before .loop-test .taken, whole-count (c .before .before .before .before .before .before .before .args .it .now))) (child-test _ _ _ (record-at .result) (at-is (c .before .before .before .before .before .before .before .pre) _ _ (record-at .ensures)) (c .if1 .taken)))
 
 add-j : tie.Need-add-j Inv-loop μ-loop
 add-j c = omega (arith, c .before .before .before .before .before .loop .inv .1)
@@ -41,10 +44,13 @@ loop-less : tie.Need-loop-less Inv-loop μ-loop
 loop-less c = omega arith
 
 loop-again : tie.Need-loop-again Inv-loop μ-loop
-loop-again c = (c .before .before .before .before .before .loop .inv .0, c .before .before .before .before .before .loop .inv .1, c .before .before .before .before .before .loop .inv .2 ∙ child-step _ _ _ (omega (arith, c .before .before .before .before .before .loop .inv .0, c .before .before .before .before .loop-test .taken, bench-count (c .before .before .before .before .before .before .before .args .it .now))) (child-test _ _ _ (c .before .before .before .record-at .result) (at-is (c .before .before .before .before .before .before .before .pre) _ _ (c .before .before .before .record-at .ensures)) (c .if1 .left)))
+loop-again c =
+    let loop = c .before .before .before .before .before .loop in
+    let record-at = c .before .before .before .record-at in
+    (loop .inv .0, loop .inv .1, loop .inv .2 ∙ child-step _ _ _ (omega (arith, loop .inv .0, c .before .before .before .before .loop-test .taken, whole-count (c .before .before .before .before .before .before .before .args .it .now))) (child-test _ _ _ (record-at .result) (at-is (c .before .before .before .before .before .before .before .pre) _ _ (record-at .ensures)) (c .if1 .left)))
 
 returns-2 : tie.Need-returns-2 Inv-loop μ-loop
-returns-2 c = sym (c .before .loop .inv .2 ∙ child-end _ _ _ (omega (arith, c .before .loop .inv .0, c .loop-test .left, bench-count (c .before .before .before .args .it .now))))
+returns-2 c = sym (c .before .loop .inv .2 ∙ child-end _ _ _ (omega (arith, c .before .loop .inv .0, c .loop-test .left, whole-count (c .before .before .before .args .it .now))))
 
 pub child-after-spec : {M : Type 1} → statement M
 child-after-spec =

@@ -2,7 +2,7 @@
 use native.Mathlib.Omega.{arith}
 use Rattle.model.specs.Records.{at, records}
 use Rattle.textform.specs.Laws.Walking.{Filling, fill-end, fill-on, fill-room, fill-start, fill-stop, visit-deep}
-use Rattle.textform.specs.Steps.{visitLine}
+use Rattle.textform.specs.Inner.{visitLine}
 use Rattle.textform.proofs.fill.Statement.{statement}
 use Rattle.textform.proofs.fill.Tie as tie
 
@@ -28,10 +28,17 @@ returns : tie.Need-returns Inv-loop μ-loop
 returns c = fill-stop _ _ _ _ _ (c .before .before .next .result) (c .before .before .next .ensures) (c .before .before .before .before .loop .inv) (c .if1 .taken)
 
 put-visit-requires : tie.Need-put-visit-requires Inv-loop μ-loop
-put-visit-requires c κs = (c .before .before .before .before .before .before .before .before .before .pre .0, c .before .before .before .before .before .before .before .before .before .pre .1, omega (arith, visit-deep _ (c .before .before .before .before .before .loop .left) _ _ (c .before .before .before .next .result) (c .before .before .before .next .ensures), c .before .before .before .before .before .loop .inv .shallow), fill-room _ _ _ _ _ (c .before .before .before .next .result) (c .before .before .before .next .ensures) (c .before .before .before .before .before .loop .inv) (c .before .before .before .before .loop-test .taken) (c .before .if1 .left))
+put-visit-requires c κs =
+    let pre = c .before .before .before .before .before .before .before .before .before .pre in
+    let loop = c .before .before .before .before .before .loop in
+    let next = c .before .before .before .next in
+    (pre .0, pre .1, omega (arith, visit-deep _ (loop .left) _ _ (next .result) (next .ensures), loop .inv .shallow), fill-room _ _ _ _ _ (next .result) (next .ensures) (loop .inv) (c .before .before .before .before .loop-test .taken) (c .before .if1 .left))
 
 add-d : tie.Need-add-d Inv-loop μ-loop
-add-d c = omega (arith, visit-deep _ (c .before .before .before .before .before .before .before .before .before .loop .left) _ _ (c .before .before .before .before .before .before .before .next .result) (c .before .before .before .before .before .before .before .next .ensures), c .before .before .before .before .before .before .before .before .before .loop .inv .shallow)
+add-d c =
+    let loop = c .before .before .before .before .before .before .before .before .before .loop in
+    let next = c .before .before .before .before .before .before .before .next in
+    omega (arith, visit-deep _ (loop .left) _ _ (next .result) (next .ensures), loop .inv .shallow)
 
 sub-left : tie.Need-sub-left Inv-loop μ-loop
 sub-left c = omega arith
@@ -40,7 +47,10 @@ loop-less : tie.Need-loop-less Inv-loop μ-loop
 loop-less c = omega arith
 
 loop-again : tie.Need-loop-again Inv-loop μ-loop
-loop-again c = fill-on _ _ _ _ _ (c .before .before .before .before .before .before .before .next .result) (c .before .before .before .before .before .before .before .next .ensures) (c .before .before .before .before .before .before .before .before .before .loop .inv) (c .before .before .before .before .before .before .before .before .loop-test .taken) (c .before .before .before .before .before .if1 .left) (c .before .before .before .put-visit .kept .0) (c .before .before .before .put-visit .ensures)
+loop-again c =
+    let next = c .before .before .before .before .before .before .before .next in
+    let put-visit = c .before .before .before .put-visit in
+    fill-on _ _ _ _ _ (next .result) (next .ensures) (c .before .before .before .before .before .before .before .before .before .loop .inv) (c .before .before .before .before .before .before .before .before .loop-test .taken) (c .before .before .before .before .before .if1 .left) (put-visit .kept .0) (put-visit .ensures)
 
 same-length-2 : tie.Need-same-length-2 Inv-loop μ-loop
 same-length-2 c = c .before .loop .inv .sized

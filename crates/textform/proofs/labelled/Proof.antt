@@ -37,7 +37,9 @@ named-requires : tie.Need-named-requires
 named-requires c κs = search needs
 
 returns-3 : tie.Need-returns-3
-returns-3 c = c .named .ensures ∙ ap (named _ _ _) (part (c .before .before .before .before .before .before .numeral .result .width) (c .before .before .before .before .before .before .before .before .args .s .now)) ∙ sym (labelled-on _ _ _ (c .before .before .before .before .before .before .numeral .result) (c .before .before .before .before .before .before .numeral .ensures) (c .before .before .before .before .before .if1 .left) (sym (c .before .before .before .before .label-in .ensures) ∙ not-false _ (c .before .before .before .if2 .left)))
+returns-3 c =
+    let numeral = c .before .before .before .before .before .before .numeral in
+    c .named .ensures ∙ ap (named _ _ _) (part (numeral .result .width) (c .before .before .before .before .before .before .before .before .args .s .now)) ∙ sym (labelled-on _ _ _ (numeral .result) (numeral .ensures) (c .before .before .before .before .before .if1 .left) (sym (c .before .before .before .before .label-in .ensures) ∙ not-false _ (c .before .before .before .if2 .left)))
 
 pub labelled-spec : {M : Type 1} → statement M
 labelled-spec =

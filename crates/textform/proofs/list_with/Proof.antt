@@ -1,7 +1,7 @@
 -- `textform::list_with` meets its contract.
 use borrow.Author.Needs.{needs}
-use Rattle.textform.specs.Laws.Listing.{list-bench, list-done, list-refused, list-valid}
-use Rattle.textform.specs.Laws.Walking.{bench}
+use Rattle.textform.specs.Laws.Listing.{list-whole, list-done, list-refused, list-valid}
+use Rattle.textform.specs.Laws.Walking.{valid-sized}
 use Rattle.textform.proofs.list_with.Statement.{statement}
 use Rattle.textform.proofs.list_with.Tie as tie
 
@@ -15,13 +15,20 @@ enum-told : tie.Need-enum-told
 enum-told c = search needs
 
 write-by-requires : tie.Need-write-by-requires
-write-by-requires c κs = (bench _ (list-valid (c .before .before .before .before .before .before .before .before .before .before .before .before .args .it .now) (c .before .before .before .before .before .before .before .before .before .before .before .before .args .table .now) (c .before .before .before .before .before .before .before .before .before .before .before .before .args .text .now) (c .before .before .before .before .before .before .before .before .before .before .before .before .args .sheet .now) (c .before .before .before .before .before .before .sheet .last .1 .1 .0) (c .before .before .before .before .before .before .before .before .before .before .before .before .pre) (c .before .before .before .before .before .before .sheet .result) (c .before .before .before .before .before .before .sheet .ensures .0) (c .before .before .before .before .before .before .sheet .ensures .1) (c .before .before .enum-told .given .1)), list-bench (c .before .before .before .before .before .before .before .before .before .before .before .before .args .it .now) (c .before .before .before .before .before .before .before .before .before .before .before .before .args .table .now) (c .before .before .before .before .before .before .before .before .before .before .before .before .args .text .now) (c .before .before .before .before .before .before .before .before .before .before .before .before .args .sheet .now) (c .before .before .before .before .before .before .sheet .last .1 .1 .0) (c .before .before .before .before .before .before .before .before .before .before .before .before .pre) (c .before .before .before .before .before .before .sheet .result) (c .before .before .before .before .before .before .sheet .ensures .0) (c .before .before .before .before .before .before .sheet .ensures .1) (c .before .before .enum-told .given .1) (c .before .before .before .before .before .before .sheet .kept .1 .1 .0))
+write-by-requires c κs =
+    let args = c .before .before .before .before .before .before .before .before .before .before .before .before .args in
+    let pre = c .before .before .before .before .before .before .before .before .before .before .before .before .pre in
+    let sheet = c .before .before .before .before .before .before .sheet in
+    (valid-sized _ (list-valid (args .it .now) (args .table .now) (args .text .now) (args .sheet .now) (sheet .last .1 .1 .0) (pre) (sheet .result) (sheet .ensures .0) (sheet .ensures .1) (c .before .before .enum-told .given .1)), list-whole (args .it .now) (args .table .now) (args .text .now) (args .sheet .now) (sheet .last .1 .1 .0) (pre) (sheet .result) (sheet .ensures .0) (sheet .ensures .1) (c .before .before .enum-told .given .1) (sheet .kept .1 .1 .0))
 
 same-length : tie.Need-same-length
 same-length c = search needs
 
 returns : tie.Need-returns
-returns c = list-refused (c .before .before .before .before .before .before .before .before .before .before .before .args .it .now) (c .before .before .before .before .before .before .before .before .before .before .before .args .table .now) (c .before .before .before .before .before .before .before .before .before .before .before .args .text .now) (c .before .before .before .before .before .before .before .before .before .before .before .args .sheet .now) (c .before .before .before .before .before .sheet .last .1 .1 .0) (c .before .before .before .before .before .before .before .before .before .before .before .pre) (c .before .before .before .before .before .sheet .result) (c .before .before .before .before .before .sheet .ensures .0) (c .before .before .before .before .before .sheet .ensures .1) (c .before .r .given .1)
+returns c =
+    let args = c .before .before .before .before .before .before .before .before .before .before .before .args in
+    let sheet = c .before .before .before .before .before .sheet in
+    list-refused (args .it .now) (args .table .now) (args .text .now) (args .sheet .now) (sheet .last .1 .1 .0) (c .before .before .before .before .before .before .before .before .before .before .before .pre) (sheet .result) (sheet .ensures .0) (sheet .ensures .1) (c .before .r .given .1)
 
 same-length-2 : tie.Need-same-length-2
 same-length-2 c = search needs
@@ -30,7 +37,10 @@ same-length-3 : tie.Need-same-length-3
 same-length-3 c = search needs
 
 returns-2 : tie.Need-returns-2
-returns-2 c = list-done (c .before .before .before .before .before .before .before .before .before .before .before .before .before .before .before .args .it .now) (c .before .before .before .before .before .before .before .before .before .before .before .before .before .before .before .args .table .now) (c .before .before .before .before .before .before .before .before .before .before .before .before .before .before .before .args .text .now) (c .before .before .before .before .before .before .before .before .before .before .before .before .before .before .before .args .sheet .now) (c .before .before .before .before .before .before .before .before .before .sheet .last .1 .1 .0) (c .before .before .before .before .before .before .before .before .before .before .before .before .before .before .before .pre) (c .before .before .before .before .before .before .before .before .before .sheet .result) (c .before .before .before .before .before .before .before .before .before .sheet .ensures .0) (c .before .before .before .before .before .before .before .before .before .sheet .ensures .1) (c .before .before .before .before .before .enum-told .given .1) _ _ (c .before .before .write-by .ensures)
+returns-2 c =
+    let args = c .before .before .before .before .before .before .before .before .before .before .before .before .before .before .before .args in
+    let sheet = c .before .before .before .before .before .before .before .before .before .sheet in
+    list-done (args .it .now) (args .table .now) (args .text .now) (args .sheet .now) (sheet .last .1 .1 .0) (c .before .before .before .before .before .before .before .before .before .before .before .before .before .before .before .pre) (sheet .result) (sheet .ensures .0) (sheet .ensures .1) (c .before .before .before .before .before .enum-told .given .1) _ _ (c .before .before .write-by .ensures)
 
 pub list-with-spec : {M : Type 1} → statement M
 list-with-spec =

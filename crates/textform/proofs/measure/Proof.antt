@@ -4,7 +4,7 @@ use mathlib.Core.Path.{_∙_, _≡_, sym}
 use native.Mathlib.Omega.{arith}
 use Rattle.model.specs.Records.{records}
 use Rattle.textform.specs.Laws.Walking.{Measured, measure-end, measure-on, measure-start, measure-stop, visit-deep, visit-short}
-use Rattle.textform.specs.Steps.{visitLine}
+use Rattle.textform.specs.Inner.{visitLine}
 use Rattle.textform.proofs.measure.Statement.{statement}
 use Rattle.textform.proofs.measure.Tie as tie
 
@@ -30,13 +30,25 @@ returns : tie.Need-returns Inv-loop μ-loop
 returns c = measure-stop _ _ _ _ _ (c .before .before .next .result) (c .before .before .next .ensures) _ (c .before .before .before .before .loop .inv .0) (c .if1 .taken)
 
 put-visit-requires : tie.Need-put-visit-requires Inv-loop μ-loop
-put-visit-requires c κs = (c .before .before .before .before .before .before .before .before .before .pre .0, c .before .before .before .before .before .before .before .before .before .pre .1, omega (arith, visit-deep _ (c .before .before .before .before .before .loop .left) _ _ (c .before .before .before .next .result) (c .before .before .before .next .ensures), c .before .before .before .before .before .loop .inv .0 .shallow), omega (arith, c .before .before .before .before .before .loop .inv .1, visit-short (c .before .before .before .before .before .before .before .before .before .args .listed) (records (c .before .before .before .before .before .before .before .before .before .args .it .now)) (records (c .before .before .before .before .before .before .before .before .before .args .sheet .now)) (c .before .before .before .next .result) (omega (arith, visit-deep _ (c .before .before .before .before .before .loop .left) _ _ (c .before .before .before .next .result) (c .before .before .before .next .ensures), c .before .before .before .before .before .loop .inv .0 .shallow))))
+put-visit-requires c κs =
+    let args = c .before .before .before .before .before .before .before .before .before .args in
+    let pre = c .before .before .before .before .before .before .before .before .before .pre in
+    let loop = c .before .before .before .before .before .loop in
+    let next = c .before .before .before .next in
+    (pre .0, pre .1, omega (arith, visit-deep _ (loop .left) _ _ (next .result) (next .ensures), loop .inv .0 .shallow), omega (arith, loop .inv .1, visit-short (args .listed) (records (args .it .now)) (records (args .sheet .now)) (next .result) (omega (arith, visit-deep _ (loop .left) _ _ (next .result) (next .ensures), loop .inv .0 .shallow))))
 
 add-used : tie.Need-add-used Inv-loop μ-loop
-add-used c = omega (arith, c .before .before .before .before .before .before .before .before .loop .inv .0 .small, c .before .before .put-visit .ensures .end, (visit-short (c .before .before .before .before .before .before .before .before .before .before .before .before .args .listed) (records (c .before .before .before .before .before .before .before .before .before .before .before .before .args .it .now)) (records (c .before .before .before .before .before .before .before .before .before .before .before .before .args .sheet .now)) (c .before .before .before .before .before .before .next .result) (omega (arith, visit-deep _ (c .before .before .before .before .before .before .before .before .loop .left) _ _ (c .before .before .before .before .before .before .next .result) (c .before .before .before .before .before .before .next .ensures), c .before .before .before .before .before .before .before .before .loop .inv .0 .shallow))))
+add-used c =
+    let args = c .before .before .before .before .before .before .before .before .before .before .before .before .args in
+    let loop = c .before .before .before .before .before .before .before .before .loop in
+    let next = c .before .before .before .before .before .before .next in
+    omega (arith, loop .inv .0 .small, c .before .before .put-visit .ensures .end, (visit-short (args .listed) (records (args .it .now)) (records (args .sheet .now)) (next .result) (omega (arith, visit-deep _ (loop .left) _ _ (next .result) (next .ensures), loop .inv .0 .shallow))))
 
 add-d : tie.Need-add-d Inv-loop μ-loop
-add-d c = omega (arith, visit-deep _ (c .before .before .before .before .before .before .before .before .before .loop .left) _ _ (c .before .before .before .before .before .before .before .next .result) (c .before .before .before .before .before .before .before .next .ensures), c .before .before .before .before .before .before .before .before .before .loop .inv .0 .shallow)
+add-d c =
+    let loop = c .before .before .before .before .before .before .before .before .before .loop in
+    let next = c .before .before .before .before .before .before .before .next in
+    omega (arith, visit-deep _ (loop .left) _ _ (next .result) (next .ensures), loop .inv .0 .shallow)
 
 sub-left : tie.Need-sub-left Inv-loop μ-loop
 sub-left c = omega arith
@@ -45,7 +57,12 @@ loop-less : tie.Need-loop-less Inv-loop μ-loop
 loop-less c = omega arith
 
 loop-again : tie.Need-loop-again Inv-loop μ-loop
-loop-again c = (measure-on _ _ _ _ _ (c .before .before .before .before .before .before .before .next .result) (c .before .before .before .before .before .before .before .next .ensures) _ _ (c .before .before .before .before .before .before .before .before .before .loop .inv .0) (c .before .before .before .before .before .before .before .before .loop-test .taken) (c .before .before .before .before .before .if1 .left) (visit-short (c .before .before .before .before .before .before .before .before .before .before .before .before .before .args .listed) (records (c .before .before .before .before .before .before .before .before .before .before .before .before .before .args .it .now)) (records (c .before .before .before .before .before .before .before .before .before .before .before .before .before .args .sheet .now)) (c .before .before .before .before .before .before .before .next .result) (omega (arith, visit-deep _ (c .before .before .before .before .before .before .before .before .before .loop .left) _ _ (c .before .before .before .before .before .before .before .next .result) (c .before .before .before .before .before .before .before .next .ensures), c .before .before .before .before .before .before .before .before .before .loop .inv .0 .shallow))) (c .before .before .before .put-visit .ensures .end), c .before .before .before .put-visit .kept .0 ∙ c .before .before .before .before .before .before .before .before .before .loop .inv .1)
+loop-again c =
+    let args = c .before .before .before .before .before .before .before .before .before .before .before .before .before .args in
+    let loop = c .before .before .before .before .before .before .before .before .before .loop in
+    let next = c .before .before .before .before .before .before .before .next in
+    let put-visit = c .before .before .before .put-visit in
+    (measure-on _ _ _ _ _ (next .result) (next .ensures) _ _ (loop .inv .0) (c .before .before .before .before .before .before .before .before .loop-test .taken) (c .before .before .before .before .before .if1 .left) (visit-short (args .listed) (records (args .it .now)) (records (args .sheet .now)) (next .result) (omega (arith, visit-deep _ (loop .left) _ _ (next .result) (next .ensures), loop .inv .0 .shallow))) (put-visit .ensures .end), put-visit .kept .0 ∙ loop .inv .1)
 
 same-length-2 : tie.Need-same-length-2 Inv-loop μ-loop
 same-length-2 c = c .before .loop .inv .1 ∙ sym (c .before .before .before .before .before .pre .2)

@@ -29,7 +29,9 @@ returns-2 : tie.Need-returns-2
 returns-2 c = sym (named-none _ _ _ _ (sym (c .before .before .before .before .byte-at .ensures) ∙ c .before .before .before .if1 .left) (c .before .numeral .result) (c .before .numeral .ensures ∙ ap numeral (part 1 (c .before .before .before .before .before .before .args .s .now))) (c .if2 .taken))
 
 returns-3 : tie.Need-returns-3
-returns-3 c = sym (named-large _ _ _ _ (sym (c .before .before .before .before .before .before .byte-at .ensures) ∙ c .before .before .before .before .before .if1 .left) (c .before .before .before .numeral .result) (c .before .before .before .numeral .ensures ∙ ap numeral (part 1 (c .before .before .before .before .before .before .before .before .args .s .now))) (c .before .before .if2 .left) (c .if3 .taken))
+returns-3 c =
+    let numeral₁ = c .before .before .before .numeral in
+    sym (named-large _ _ _ _ (sym (c .before .before .before .before .before .before .byte-at .ensures) ∙ c .before .before .before .before .before .if1 .left) (numeral₁ .result) (numeral₁ .ensures ∙ ap numeral (part 1 (c .before .before .before .before .before .before .before .before .args .s .now))) (c .before .before .if2 .left) (c .if3 .taken))
 
 cast-t8 : tie.Need-cast-t8
 cast-t8 c = search needs
@@ -47,7 +49,10 @@ ended-requires : tie.Need-ended-requires
 ended-requires c κs = search needs
 
 returns-4 : tie.Need-returns-4
-returns-4 c = c .ended .ensures ∙ ap (ended _) (part-part (c .before .before .before .before .before .before .numeral .result .width) 1 (c .before .before .before .before .before .before .before .before .before .before .before .args .s .now)) ∙ sym (named-on _ _ _ _ (sym (c .before .before .before .before .before .before .before .before .before .byte-at .ensures) ∙ c .before .before .before .before .before .before .before .before .if1 .left) (c .before .before .before .before .before .before .numeral .result) (c .before .before .before .before .before .before .numeral .ensures ∙ ap numeral (part 1 (c .before .before .before .before .before .before .before .before .before .before .before .args .s .now))) (c .before .before .before .before .before .if2 .left) (c .before .before .before .if3 .left))
+returns-4 c =
+    let args = c .before .before .before .before .before .before .before .before .before .before .before .args in
+    let numeral₁ = c .before .before .before .before .before .before .numeral in
+    c .ended .ensures ∙ ap (ended _) (part-part (numeral₁ .result .width) 1 (args .s .now)) ∙ sym (named-on _ _ _ _ (sym (c .before .before .before .before .before .before .before .before .before .byte-at .ensures) ∙ c .before .before .before .before .before .before .before .before .if1 .left) (numeral₁ .result) (numeral₁ .ensures ∙ ap numeral (part 1 (args .s .now))) (c .before .before .before .before .before .if2 .left) (c .before .before .before .if3 .left))
 
 pub named-spec : {M : Type 1} → statement M
 named-spec =

@@ -12,22 +12,37 @@ cast-put-number : tie.Need-cast-put-number
 cast-put-number c = search needs
 
 put-number-requires : tie.Need-put-number-requires
-put-number-requires c κs = omega (arith, c .before .before .before .before .before .before .before .pre, fields-length (c .before .before .before .before .before .before .before .args .line), c .before .before .before .before .put-kind .ensures .end, c .before .before .before .before .put-kind .kept .0)
+put-number-requires c κs =
+    let put-kind = c .before .before .before .before .put-kind in
+    omega (arith, c .before .before .before .before .before .before .before .pre, fields-length (c .before .before .before .before .before .before .before .args .line), put-kind .ensures .end, put-kind .kept .0)
 
 put-byte-requires : tie.Need-put-byte-requires
-put-byte-requires c κs = omega (arith, c .before .before .before .before .before .before .before .before .before .before .before .pre, fields-length (c .before .before .before .before .before .before .before .before .before .before .before .args .line), c .before .before .before .before .before .before .before .before .put-kind .ensures .end, c .before .before .before .before .before .before .before .before .put-kind .kept .0, c .before .before .before .put-number .ensures .end, c .before .before .before .put-number .kept .0)
+put-byte-requires c κs =
+    let put-kind = c .before .before .before .before .before .before .before .before .put-kind in
+    let put-number = c .before .before .before .put-number in
+    omega (arith, c .before .before .before .before .before .before .before .before .before .before .before .pre, fields-length (c .before .before .before .before .before .before .before .before .before .before .before .args .line), put-kind .ensures .end, put-kind .kept .0, put-number .ensures .end, put-number .kept .0)
 
 cast-put-number-2 : tie.Need-cast-put-number-2
 cast-put-number-2 c = search needs
 
 put-number-requires-2 : tie.Need-put-number-requires-2
-put-number-requires-2 c κs = omega (arith, c .before .before .before .before .before .before .before .before .before .before .before .before .before .before .before .before .pre, fields-length (c .before .before .before .before .before .before .before .before .before .before .before .before .before .before .before .before .args .line), c .before .before .before .before .before .before .before .before .before .before .before .before .before .put-kind .ensures .end, c .before .before .before .before .before .before .before .before .before .before .before .before .before .put-kind .kept .0, c .before .before .before .before .before .before .before .before .put-number .ensures .end, c .before .before .before .before .before .before .before .before .put-number .kept .0, c .before .before .before .before .put-byte .ensures .end, c .before .before .before .before .put-byte .kept .0)
+put-number-requires-2 c κs =
+    let put-kind = c .before .before .before .before .before .before .before .before .before .before .before .before .before .put-kind in
+    let put-number = c .before .before .before .before .before .before .before .before .put-number in
+    let put-byte = c .before .before .before .before .put-byte in
+    omega (arith, c .before .before .before .before .before .before .before .before .before .before .before .before .before .before .before .before .pre, fields-length (c .before .before .before .before .before .before .before .before .before .before .before .before .before .before .before .before .args .line), put-kind .ensures .end, put-kind .kept .0, put-number .ensures .end, put-number .kept .0, put-byte .ensures .end, put-byte .kept .0)
 
 same-length : tie.Need-same-length
 same-length c = search needs
 
 returns : tie.Need-returns
-returns c = put-as (fields-are _) (put-then (put-then (put-then (c .before .before .before .before .before .before .before .before .before .before .before .before .before .before .before .before .put-kind .ensures) (c .before .before .before .before .before .before .before .before .before .before .before .put-number .ensures) (omega (arith, c .before .before .before .before .before .before .before .before .before .before .before .before .before .before .before .before .before .before .before .pre, fields-length (c .before .before .before .before .before .before .before .before .before .before .before .before .before .before .before .before .before .before .before .args .line), c .before .before .before .before .before .before .before .before .before .before .before .before .before .before .before .before .put-kind .ensures .end, c .before .before .before .before .before .before .before .before .before .before .before .put-number .ensures .end, c .before .before .before .before .before .before .before .put-byte .ensures .end, c .before .before .put-number2 .ensures .end))) (c .before .before .before .before .before .before .before .put-byte .ensures) (omega (arith, c .before .before .before .before .before .before .before .before .before .before .before .before .before .before .before .before .before .before .before .pre, fields-length (c .before .before .before .before .before .before .before .before .before .before .before .before .before .before .before .before .before .before .before .args .line), c .before .before .before .before .before .before .before .before .before .before .before .before .before .before .before .before .put-kind .ensures .end, c .before .before .before .before .before .before .before .before .before .before .before .put-number .ensures .end, c .before .before .before .before .before .before .before .put-byte .ensures .end, c .before .before .put-number2 .ensures .end))) (c .before .before .put-number2 .ensures) (omega (arith, c .before .before .before .before .before .before .before .before .before .before .before .before .before .before .before .before .before .before .before .pre, fields-length (c .before .before .before .before .before .before .before .before .before .before .before .before .before .before .before .before .before .before .before .args .line), c .before .before .before .before .before .before .before .before .before .before .before .before .before .before .before .before .put-kind .ensures .end, c .before .before .before .before .before .before .before .before .before .before .before .put-number .ensures .end, c .before .before .before .before .before .before .before .put-byte .ensures .end, c .before .before .put-number2 .ensures .end)))
+returns c =
+    let args = c .before .before .before .before .before .before .before .before .before .before .before .before .before .before .before .before .before .before .before .args in
+    let pre = c .before .before .before .before .before .before .before .before .before .before .before .before .before .before .before .before .before .before .before .pre in
+    let put-kind = c .before .before .before .before .before .before .before .before .before .before .before .before .before .before .before .before .put-kind in
+    let put-number = c .before .before .before .before .before .before .before .before .before .before .before .put-number in
+    let put-byte = c .before .before .before .before .before .before .before .put-byte in
+    put-as (fields-are _) (put-then (put-then (put-then (put-kind .ensures) (put-number .ensures) (omega (arith, pre, fields-length (args .line), put-kind .ensures .end, put-number .ensures .end, put-byte .ensures .end, c .before .before .put-number2 .ensures .end))) (put-byte .ensures) (omega (arith, pre, fields-length (args .line), put-kind .ensures .end, put-number .ensures .end, put-byte .ensures .end, c .before .before .put-number2 .ensures .end))) (c .before .before .put-number2 .ensures) (omega (arith, pre, fields-length (args .line), put-kind .ensures .end, put-number .ensures .end, put-byte .ensures .end, c .before .before .put-number2 .ensures .end)))
 
 pub put-fields-spec : {M : Type 1} → statement M
 put-fields-spec =

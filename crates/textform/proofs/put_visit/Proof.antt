@@ -16,13 +16,21 @@ record-at-requires-2 : tie.Need-record-at-requires-2
 record-at-requires-2 c κs = search needs
 
 put-entry-requires : tie.Need-put-entry-requires
-put-entry-requires c κs = (c .before .before .before .before .before .before .before .pre .2, omega (arith, c .before .before .before .before .before .before .before .pre .3, ap length (visit-is (c .before .before .before .before .before .before .before .args .listed) (records (c .before .before .before .before .before .before .before .args .it .now)) (records (c .before .before .before .before .before .before .before .args .sheet .now)) (c .before .before .before .before .before .before .before .args .v) (c .before .before .before .record-at .result) (c .before .before .record-at2 .result) (at-is (c .before .before .before .before .before .before .before .pre .0) _ _ (c .before .before .before .record-at .ensures)) (at-is (c .before .before .before .before .before .before .before .pre .1) _ _ (c .before .before .record-at2 .ensures)))))
+put-entry-requires c κs =
+    let args = c .before .before .before .before .before .before .before .args in
+    let pre = c .before .before .before .before .before .before .before .pre in
+    let record-at = c .before .before .before .record-at in
+    (pre .2, omega (arith, pre .3, ap length (visit-is (args .listed) (records (args .it .now)) (records (args .sheet .now)) (args .v) (record-at .result) (c .before .before .record-at2 .result) (at-is (pre .0) _ _ (record-at .ensures)) (at-is (pre .1) _ _ (c .before .before .record-at2 .ensures)))))
 
 same-length : tie.Need-same-length
 same-length c = search needs
 
 returns : tie.Need-returns
-returns c = put-as (visit-is _ _ _ _ (c .before .before .before .before .before .before .record-at .result) (c .before .before .before .before .before .record-at2 .result) (at-is (c .before .before .before .before .before .before .before .before .before .before .pre .0) _ _ (c .before .before .before .before .before .before .record-at .ensures)) (at-is (c .before .before .before .before .before .before .before .before .before .before .pre .1) _ _ (c .before .before .before .before .before .record-at2 .ensures))) (c .before .before .put-entry .ensures)
+returns c =
+    let pre = c .before .before .before .before .before .before .before .before .before .before .pre in
+    let record-at = c .before .before .before .before .before .before .record-at in
+    let record-at2 = c .before .before .before .before .before .record-at2 in
+    put-as (visit-is _ _ _ _ (record-at .result) (record-at2 .result) (at-is (pre .0) _ _ (record-at .ensures)) (at-is (pre .1) _ _ (record-at2 .ensures))) (c .before .before .put-entry .ensures)
 
 pub put-visit-spec : {M : Type 1} → statement M
 put-visit-spec =

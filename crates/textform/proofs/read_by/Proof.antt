@@ -27,7 +27,11 @@ same-length-2 : tie.Need-same-length-2
 same-length-2 c = search needs
 
 returns : tie.Need-returns
-returns c = read-fault (c .before .before .before .before .before .before .before .before .before .before .before .before .before .before .args .text .now) (c .before .before .before .before .before .before .before .before .before .before .before .before .before .before .args .it .now) (c .before .before .before .before .before .before .before .before .before .before .before .before .before .before .args .scratch .now) (c .before .before .before .before .before .before .before .before .before .room-in .result) (c .before .before .before .before .before .before .scan .result) (c .before .before .before .before .before .before .before .before .before .room-in .ensures) (c .before .before .before .before .before .before .scan .ensures .0) (c .enum-told .given .1)
+returns c =
+    let args = c .before .before .before .before .before .before .before .before .before .before .before .before .before .before .args in
+    let room-in = c .before .before .before .before .before .before .before .before .before .room-in in
+    let scan = c .before .before .before .before .before .before .scan in
+    read-fault (args .text .now) (args .it .now) (args .scratch .now) (room-in .result) (scan .result) (room-in .ensures) (scan .ensures .0) (c .enum-told .given .1)
 
 cast-put : tie.Need-cast-put
 cast-put c = search needs
@@ -36,13 +40,27 @@ mul-put : tie.Need-mul-put
 mul-put c = search needs
 
 slice-reshare-prefix-put : tie.Need-slice-reshare-prefix-put
-slice-reshare-prefix-put c = omega (arith, read-fits (c .before .before .before .before .before .before .before .before .before .before .before .before .before .before .before .before .args .text .now) (c .before .before .before .before .before .before .before .before .before .before .before .before .before .before .before .before .args .it .now) (c .before .before .before .before .before .before .before .before .before .before .before .before .before .before .before .before .args .scratch .now) (c .before .before .before .before .before .before .before .before .before .before .before .room-in .result) (c .before .before .before .before .before .before .before .before .scan .result) (c .before .before .before .before .before .before .before .before .before .before .before .room-in .ensures) (c .before .before .before .before .before .before .before .before .scan .ensures .0) _ (c .before .before .got .given .1) (c .before .before .before .before .before .before .before .before .before .before .before .before .before .before .before .before .pre .0), c .before .before .before .before .before .before .before .before .scan .kept .1 .0, c .before .before .before .before .before .before .before .before .before .before .before .before .before .before .before .before .pre .0)
+slice-reshare-prefix-put c =
+    let args = c .before .before .before .before .before .before .before .before .before .before .before .before .before .before .before .before .args in
+    let pre = c .before .before .before .before .before .before .before .before .before .before .before .before .before .before .before .before .pre in
+    let room-in = c .before .before .before .before .before .before .before .before .before .before .before .room-in in
+    let scan = c .before .before .before .before .before .before .before .before .scan in
+    omega (arith, read-fits (args .text .now) (args .it .now) (args .scratch .now) (room-in .result) (scan .result) (room-in .ensures) (scan .ensures .0) _ (c .before .before .got .given .1) (pre .0), scan .kept .1 .0, pre .0)
 
 slice-aggregate-put : tie.Need-slice-aggregate-put
-slice-aggregate-put c = sym (length-take-le _ _ (omega (arith, read-fits (c .before .before .before .before .before .before .before .before .before .before .before .before .before .before .before .before .before .args .text .now) (c .before .before .before .before .before .before .before .before .before .before .before .before .before .before .before .before .before .args .it .now) (c .before .before .before .before .before .before .before .before .before .before .before .before .before .before .before .before .before .args .scratch .now) (c .before .before .before .before .before .before .before .before .before .before .before .before .room-in .result) (c .before .before .before .before .before .before .before .before .before .scan .result) (c .before .before .before .before .before .before .before .before .before .before .before .before .room-in .ensures) (c .before .before .before .before .before .before .before .before .before .scan .ensures .0) _ (c .before .before .before .got .given .1) (c .before .before .before .before .before .before .before .before .before .before .before .before .before .before .before .before .before .pre .0), c .before .before .before .before .before .before .before .before .before .scan .kept .1 .0, c .before .before .before .before .before .before .before .before .before .before .before .before .before .before .before .before .before .pre .0)))
+slice-aggregate-put c =
+    let args = c .before .before .before .before .before .before .before .before .before .before .before .before .before .before .before .before .before .args in
+    let pre = c .before .before .before .before .before .before .before .before .before .before .before .before .before .before .before .before .before .pre in
+    let room-in = c .before .before .before .before .before .before .before .before .before .before .before .before .room-in in
+    let scan = c .before .before .before .before .before .before .before .before .before .scan in
+    sym (length-take-le _ _ (omega (arith, read-fits (args .text .now) (args .it .now) (args .scratch .now) (room-in .result) (scan .result) (room-in .ensures) (scan .ensures .0) _ (c .before .before .before .got .given .1) (pre .0), scan .kept .1 .0, pre .0)))
 
 put-requires : tie.Need-put-requires
-put-requires c κs = simp length-take (omega (arith, read-few (c .before .before .before .before .before .before .before .before .before .before .before .before .before .before .before .before .before .args .text .now) (c .before .before .before .before .before .before .before .before .before .before .before .before .before .before .before .before .before .args .it .now) (c .before .before .before .before .before .before .before .before .before .before .before .before .before .before .before .before .before .args .scratch .now) (c .before .before .before .before .before .before .before .before .before .before .before .before .room-in .result) (c .before .before .before .before .before .before .before .before .before .scan .result) (c .before .before .before .before .before .before .before .before .before .before .before .before .room-in .ensures) (c .before .before .before .before .before .before .before .before .before .scan .ensures .0) _ (c .before .before .before .got .given .1) (c .before .before .before .before .before .before .before .before .before .before .before .before .before .before .before .before .before .pre .0)))
+put-requires c κs =
+    let args = c .before .before .before .before .before .before .before .before .before .before .before .before .before .before .before .before .before .args in
+    let room-in = c .before .before .before .before .before .before .before .before .before .before .before .before .room-in in
+    let scan = c .before .before .before .before .before .before .before .before .before .scan in
+    simp length-take (omega (arith, read-few (args .text .now) (args .it .now) (args .scratch .now) (room-in .result) (scan .result) (room-in .ensures) (scan .ensures .0) _ (c .before .before .before .got .given .1) (c .before .before .before .before .before .before .before .before .before .before .before .before .before .before .before .before .before .pre .0)))
 
 same-length-3 : tie.Need-same-length-3
 same-length-3 c = search needs
@@ -54,7 +72,11 @@ same-length-5 : tie.Need-same-length-5
 same-length-5 c = search needs
 
 returns-2 : tie.Need-returns-2
-returns-2 c = read-records (c .before .before .before .before .before .before .before .before .before .before .before .before .before .before .before .before .before .before .before .before .args .text .now) (c .before .before .before .before .before .before .before .before .before .before .before .before .before .before .before .before .before .before .before .before .args .it .now) (c .before .before .before .before .before .before .before .before .before .before .before .before .before .before .before .before .before .before .before .before .args .scratch .now) (c .before .before .before .before .before .before .before .before .before .before .before .before .before .before .before .room-in .result) (c .before .before .before .before .before .before .before .before .before .before .before .before .scan .result) (c .before .before .before .before .before .before .before .before .before .before .before .before .before .before .before .room-in .ensures) (c .before .before .before .before .before .before .before .before .before .before .before .before .scan .ensures .0) _ (c .before .before .before .before .before .before .got .given .1) (c .before .before .before .before .before .before .before .before .before .before .before .before .before .before .before .before .before .before .before .before .pre .0) _ _ (c .before .before .before .before .before .before .before .before .before .before .before .before .scan .ensures .1) (c .before .before .put .ensures .bytes)
+returns-2 c =
+    let args = c .before .before .before .before .before .before .before .before .before .before .before .before .before .before .before .before .before .before .before .before .args in
+    let room-in = c .before .before .before .before .before .before .before .before .before .before .before .before .before .before .before .room-in in
+    let scan = c .before .before .before .before .before .before .before .before .before .before .before .before .scan in
+    read-records (args .text .now) (args .it .now) (args .scratch .now) (room-in .result) (scan .result) (room-in .ensures) (scan .ensures .0) _ (c .before .before .before .before .before .before .got .given .1) (c .before .before .before .before .before .before .before .before .before .before .before .before .before .before .before .before .before .before .before .before .pre .0) _ _ (scan .ensures .1) (c .before .before .put .ensures .bytes)
 
 pub read-by-spec : {M : Type 1} → statement M
 read-by-spec =

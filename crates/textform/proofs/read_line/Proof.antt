@@ -29,7 +29,9 @@ worded-requires : tie.Need-worded-requires
 worded-requires c κs = search needs
 
 returns-3 : tie.Need-returns-3
-returns-3 c = c .worded .ensures ∙ ap (worded _) (part (c .before .before .before .before .spaces .result) (c .before .before .before .before .before .before .args .s .now)) ∙ sym (line-on _ _ (c .before .before .before .before .spaces .result) (c .before .before .before .before .spaces .ensures) (c .before .before .before .if1 .left) (c .before .before .if2 .left))
+returns-3 c =
+    let spaces = c .before .before .before .before .spaces in
+    c .worded .ensures ∙ ap (worded _) (part (spaces .result) (c .before .before .before .before .before .before .args .s .now)) ∙ sym (line-on _ _ (spaces .result) (spaces .ensures) (c .before .before .before .if1 .left) (c .before .before .if2 .left))
 
 pub read-line-spec : {M : Type 1} → statement M
 read-line-spec =

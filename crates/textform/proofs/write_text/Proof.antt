@@ -1,7 +1,7 @@
 -- `textform::write_text` meets its contract.
 use borrow.Author.Needs.{needs}
 use Rattle.itinerary.specs.Laws.{validate-pass, validate-refuse}
-use Rattle.textform.specs.Laws.Walking.{bench, write-done, write-refused}
+use Rattle.textform.specs.Laws.Walking.{valid-sized, write-done, write-refused}
 use Rattle.textform.proofs.write_text.Statement.{statement}
 use Rattle.textform.proofs.write_text.Tie as tie
 
@@ -15,7 +15,7 @@ enum-told : tie.Need-enum-told
 enum-told c = search needs
 
 write-by-requires : tie.Need-write-by-requires
-write-by-requires c κs = (bench _ (validate-pass _ _ (c .before .before .before .validate .ensures) (c .before .enum-told .given .1)), bench _ (validate-pass _ _ (c .before .before .before .validate .ensures) (c .before .enum-told .given .1)))
+write-by-requires c κs = (valid-sized _ (validate-pass _ _ (c .before .before .before .validate .ensures) (c .before .enum-told .given .1)), valid-sized _ (validate-pass _ _ (c .before .before .before .validate .ensures) (c .before .enum-told .given .1)))
 
 returns : tie.Need-returns
 returns c = write-refused _ _ _ (validate-refuse _ _ (c .before .before .before .validate .ensures) (c .before .r .given .1))

@@ -26,9 +26,9 @@ use Rattle.model.specs.declared.Rec.{Rec}
 use Rattle.model.specs.declared.Refusal.{Refusal}
 use Rattle.textform.specs.Laws.Identity.{next-visited, walk-end}
 use Rattle.textform.specs.Laws.Nesting.{walk-next}
-use Rattle.textform.specs.Laws.Walking.{bench}
+use Rattle.textform.specs.Laws.Walking.{valid-sized}
 use Rattle.textform.specs.Lines.{entry}
-use Rattle.textform.specs.Steps.{Bench, Written, front, visitLine}
+use Rattle.textform.specs.Inner.{Whole, Written, front, visitLine}
 use Rattle.textform.specs.Writing.{lineAt, linesOf, listAfter, listAnswer, listLine, listOf, listable, mark, nextFrom, told, toldAfter, walk, walkFrom}
 use Rattle.textform.specs.declared.TextWritten.{TextWritten}
 use Rattle.textform.specs.declared.TextWritten.the-variants.{Refused}
@@ -104,5 +104,5 @@ module _ (s table t : List ℕ) where
           let p : listable s table ≡ pass = sym showing-is ∙ shown in
           (rw p (rw q at (rw sheet-records at (w .answer))), rw p (rw q at (rw sheet-records at (w .bytes))))
 
-      pub list-bench : length d′ ≡ length d → Bench d′
-      list-bench k = let v = bench s list-valid in record { whole = ap (λ n. n % 8) (k ∙ l) ∙ v .whole; few = omega (arith, v .few) }
+      pub list-whole : length d′ ≡ length d → Whole d′
+      list-whole k = let v = valid-sized s list-valid in record { whole = ap (λ n. n % 8) (k ∙ l) ∙ v .whole; few = omega (arith, v .few) }

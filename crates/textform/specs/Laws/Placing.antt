@@ -15,7 +15,7 @@ use Rattle.textform.specs.Laws.Nesting.{length-placed, none-length}
 use Rattle.textform.specs.Laws.Putting.{splice-over}
 use Rattle.textform.specs.Lines.{splice}
 use Rattle.textform.specs.Reading.{Scan, before, causeOf, lineRead, noneAbove, placed, placedFrom, readAfter, readAnswer, readBy, readInto, recordOf, roomIn, scan, scanAnswer, scanFrom}
-use Rattle.textform.specs.Steps.{scanned}
+use Rattle.textform.specs.Inner.{scanned}
 use Rattle.textform.specs.declared.Line.{Line}
 use Rattle.textform.specs.declared.LineRead.{LineRead}
 use Rattle.textform.specs.declared.LineRead.the-variants.{Bad, Good}

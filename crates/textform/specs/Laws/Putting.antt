@@ -12,7 +12,7 @@ use native.Mathlib.Omega.{arith}
 use Rattle.model.specs.Listing.{digitsIn, field}
 use Rattle.textform.specs.Laws.Lines.{digits-high, digits-low}
 use Rattle.textform.specs.Lines.{ambientWord, entry, hiddenWord, inWord, indent, kindWord, openWord, outWord, over, splice}
-use Rattle.textform.specs.Steps.{Put, fields, front}
+use Rattle.textform.specs.Inner.{Put, fields, front}
 use Rattle.textform.specs.Writing.{mark}
 use Rattle.textform.specs.declared.Line.{Line}
 

@@ -23,19 +23,19 @@ use Rattle.textform.specs.Laws.Lines.{digits-high, digits-low}
 use Rattle.textform.specs.Laws.Nesting.{walk-next}
 use Rattle.textform.specs.Laws.Putting.{entry-length, fields-length, splice-nil, splice-over, splice-splice}
 use Rattle.textform.specs.Lines.{ambientWord, entry, hiddenWord, inWord, kindWord, lineBytes, openWord, outWord, over, render, splice}
-use Rattle.textform.specs.Steps.{Bench, Put, Written, front, visitLine}
+use Rattle.textform.specs.Inner.{Whole, Put, Written, front, visitLine}
 use Rattle.textform.specs.Writing.{childAfter, childOr, fits, isChild, lineAt, linesOf, mark, nextFrom, orZero, overIf, textOf, told, toldAfter, walk, walkFrom, writeAfter, writeAnswer}
 use Rattle.textform.specs.declared.TextWritten.{TextWritten}
 use Rattle.textform.specs.declared.TextWritten.the-variants.{Length, NoRoom, Refused}
 use Rattle.textform.specs.declared.Visit.{Visit}
 
 -- record i as it is read
-pub at-is : {s : List ℕ} → Bench s → (i : ℕ) (r : Rec) → r ≡ decode s i → r ≡ at (records s) i
+pub at-is : {s : List ℕ} → Whole s → (i : ℕ) (r : Rec) → r ≡ decode s i → r ≡ at (records s) i
 at-is {s} w i r e = e ∙ sym (at-whole s (w .whole) i)
 
-pub bench-count : (s : List ℕ) → length (records s) ≡ length s / 8
+pub whole-count : (s : List ℕ) → length (records s) ≡ length s / 8
 unfolding count
-bench-count s = length-records s
+whole-count s = length-records s
 
 module _ (its : List Rec) (p j : ℕ) where
   pub child-test : (r : Rec) {b : Bool} → r ≡ at its j → (unequal (r .kind) 0 && eqb (r .parent) p) ≡ b → isChild its p j ≡ b
@@ -158,10 +158,10 @@ pub record Filling (f : Visit → List ℕ) (its : List Rec) (t₀ t : List ℕ)
   pub sized : length t ≡ length t₀
   pub bytes : splice q (ahead f its left p d) t ≡ over (linesOf f (walk its)) t₀
 
-module _ (f : Visit → List ℕ) (s : List ℕ) (b : Bench s) where
+module _ (f : Visit → List ℕ) (s : List ℕ) (b : Whole s) where
   all : walkFrom (records s) (length s / 8) 0 0 ≡ walk (records s)
   unfolding walk
-  all = rw (bench-count s)
+  all = rw (whole-count s)
 
   pub measure-start : Measured f (records s) (length s / 8) 0 0 0
   unfolding ahead
@@ -250,5 +250,5 @@ module _ (s t : List ℕ) where
       let q = text-plain (records s) in
       (rw e (rw q at (w .answer)), rw e (rw q at (w .bytes)))
 
-pub bench : (s : List ℕ) → validity s ≡ pass → Bench s
-bench s v = record { whole = valid-whole s v; few = valid-few s v }
+pub valid-sized : (s : List ℕ) → validity s ≡ pass → Whole s
+valid-sized s v = record { whole = valid-whole s v; few = valid-few s v }

@@ -49,7 +49,7 @@ abbrev pub wholeText : Bool → List ℕ → List ℕ → List ℕ
 wholeText listed s sheet = linesOf (visitLine listed (records s) (records sheet)) (walk (records s))
 
 -- whole records, at most 1,024 of them
-pub record Bench (s : List ℕ) : Type 0 where
+pub record Whole (s : List ℕ) : Type 0 where
   pub whole : length s % 8 ≡ 0
   pub few : length s ≤ 8192
 
