@@ -3,7 +3,7 @@ use Prim.Native.Nat.{_*_, ℕ}
 use borrow.Author.Needs.{needs}
 use lib.ListN.{length-replicate}
 use native.Mathlib.Omega.{arith}
-use Rattle.textform.specs.Laws.Putting.{entry-is, entry-length, put-as, put-then}
+use Rattle.textform.specs.Laws.Putting.{entry-length, entry-put}
 use Rattle.textform.specs.Inner.{front}
 use Rattle.textform.specs.Writing.{mark}
 use Rattle.textform.proofs.put_entry.Statement.{statement}
@@ -49,14 +49,7 @@ same-length : tie.Need-same-length
 same-length c = search needs
 
 returns : tie.Need-returns
-returns c =
-    let args = c .before .before .before .before .before .before .before .before .before .before .before .before .before .before .before .before .before .before .before .before .before .args in
-    let pre = c .before .before .before .before .before .before .before .before .before .before .before .before .before .before .before .before .before .before .before .before .before .pre in
-    let put-spaces = c .before .before .before .before .before .before .before .before .before .before .before .before .before .before .before .before .before .before .put-spaces in
-    let put-front = c .before .before .before .before .before .before .before .before .before .before .before .before .before .before .put-front in
-    let put-fields = c .before .before .before .before .before .before .before .before .before .before .put-fields in
-    let put-mark = c .before .before .before .before .before .before .put-mark in
-    put-as (entry-is _ _ _) (put-then (put-then (put-then (put-then (put-spaces .ensures) (put-front .ensures) (omega (arith, pre .1, entry-length (front (args .listed) (args .number)) (mark (args .hidden)) (args .line), length-replicate {0} {A = ℕ} (2 * args .line .depth) 32, put-spaces .ensures .end, put-front .ensures .end, put-fields .ensures .end, put-mark .ensures .end, c .before .before .put-byte .ensures .end))) (put-fields .ensures) (omega (arith, pre .1, entry-length (front (args .listed) (args .number)) (mark (args .hidden)) (args .line), length-replicate {0} {A = ℕ} (2 * args .line .depth) 32, put-spaces .ensures .end, put-front .ensures .end, put-fields .ensures .end, put-mark .ensures .end, c .before .before .put-byte .ensures .end))) (put-mark .ensures) (omega (arith, pre .1, entry-length (front (args .listed) (args .number)) (mark (args .hidden)) (args .line), length-replicate {0} {A = ℕ} (2 * args .line .depth) 32, put-spaces .ensures .end, put-front .ensures .end, put-fields .ensures .end, put-mark .ensures .end, c .before .before .put-byte .ensures .end))) (c .before .before .put-byte .ensures) (omega (arith, pre .1, entry-length (front (args .listed) (args .number)) (mark (args .hidden)) (args .line), length-replicate {0} {A = ℕ} (2 * args .line .depth) 32, put-spaces .ensures .end, put-front .ensures .end, put-fields .ensures .end, put-mark .ensures .end, c .before .before .put-byte .ensures .end)))
+returns c = entry-put _ _ _ (c .before .before .before .before .before .before .before .before .before .before .before .before .before .before .before .before .before .before .before .before .before .pre .1) (c .before .before .before .before .before .before .before .before .before .before .before .before .before .before .before .before .before .before .put-spaces .ensures) (c .before .before .before .before .before .before .before .before .before .before .before .before .before .before .put-front .ensures) (c .before .before .before .before .before .before .before .before .before .before .put-fields .ensures) (c .before .before .before .before .before .before .put-mark .ensures) (c .before .before .put-byte .ensures)
 
 pub put-entry-spec : {M : Type 1} → statement M
 put-entry-spec =

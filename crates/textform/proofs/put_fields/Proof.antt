@@ -1,7 +1,7 @@
 -- `textform::put_fields` meets its contract.
 use borrow.Author.Needs.{needs}
 use native.Mathlib.Omega.{arith}
-use Rattle.textform.specs.Laws.Putting.{fields-are, fields-length, put-as, put-then}
+use Rattle.textform.specs.Laws.Putting.{fields-length, fields-put}
 use Rattle.textform.proofs.put_fields.Statement.{statement}
 use Rattle.textform.proofs.put_fields.Tie as tie
 
@@ -36,13 +36,7 @@ same-length : tie.Need-same-length
 same-length c = search needs
 
 returns : tie.Need-returns
-returns c =
-    let args = c .before .before .before .before .before .before .before .before .before .before .before .before .before .before .before .before .before .before .before .args in
-    let pre = c .before .before .before .before .before .before .before .before .before .before .before .before .before .before .before .before .before .before .before .pre in
-    let put-kind = c .before .before .before .before .before .before .before .before .before .before .before .before .before .before .before .before .put-kind in
-    let put-number = c .before .before .before .before .before .before .before .before .before .before .before .put-number in
-    let put-byte = c .before .before .before .before .before .before .before .put-byte in
-    put-as (fields-are _) (put-then (put-then (put-then (put-kind .ensures) (put-number .ensures) (omega (arith, pre, fields-length (args .line), put-kind .ensures .end, put-number .ensures .end, put-byte .ensures .end, c .before .before .put-number2 .ensures .end))) (put-byte .ensures) (omega (arith, pre, fields-length (args .line), put-kind .ensures .end, put-number .ensures .end, put-byte .ensures .end, c .before .before .put-number2 .ensures .end))) (c .before .before .put-number2 .ensures) (omega (arith, pre, fields-length (args .line), put-kind .ensures .end, put-number .ensures .end, put-byte .ensures .end, c .before .before .put-number2 .ensures .end)))
+returns c = fields-put _ (c .before .before .before .before .before .before .before .before .before .before .before .before .before .before .before .before .before .before .before .pre) (c .before .before .before .before .before .before .before .before .before .before .before .before .before .before .before .before .put-kind .ensures) (c .before .before .before .before .before .before .before .before .before .before .before .put-number .ensures) (c .before .before .before .before .before .before .before .put-byte .ensures) (c .before .before .put-number2 .ensures)
 
 pub put-fields-spec : {M : Type 1} → statement M
 put-fields-spec =

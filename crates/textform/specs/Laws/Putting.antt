@@ -164,3 +164,17 @@ fields-length l = simp length-append (omega arith)
 
 pub entry-length : (f b : List ℕ) (l : Line) → length (entry f b l) ≡ 2 * l .depth + (length f + (length (fields l) + (length b + 1)))
 entry-length f b l = ap length (sym (entry-is f b l)) ∙ simp (length-append, length-replicate) (omega arith)
+
+-- the parts of a line, put one after the other
+pub fields-put : (l : Line) {t t₁ t₂ t₃ t₄ : List ℕ} {p e₁ e₂ e₃ e₄ : ℕ} → p + length (fields l) ≤ length t →
+    Put t p (kindWord (l .kind)) t₁ e₁ → Put t₁ e₁ (digitsIn 5 (l .label)) t₂ e₂ → Put t₂ e₂ (32 ∷ []) t₃ e₃ → Put t₃ e₃ (digitsIn 5 (l .name)) t₄ e₄ → Put t p (fields l) t₄ e₄
+fields-put l {t} {p = p} {e₄ = e₄} h a b c d =
+    let o : e₄ ≤ length t = omega (arith, fields-length l, a .end, b .end, c .end, d .end) in
+    put-as (fields-are l) (put-then (put-then (put-then a b (omega (arith, c .end, d .end))) c (omega (arith, d .end))) d o)
+
+pub entry-put : (f b : List ℕ) (l : Line) {t t₁ t₂ t₃ t₄ t₅ : List ℕ} {p e₁ e₂ e₃ e₄ e₅ : ℕ} → p + length (entry f b l) ≤ length t →
+    Put t p (replicate (2 * l .depth) 32) t₁ e₁ → Put t₁ e₁ f t₂ e₂ → Put t₂ e₂ (fields l) t₃ e₃ → Put t₃ e₃ b t₄ e₄ → Put t₄ e₄ (10 ∷ []) t₅ e₅ → Put t p (entry f b l) t₅ e₅
+entry-put f b l {t} {e₅ = e₅} h x y z u v =
+    let o : e₅ ≤ length t = omega (arith, entry-length f b l, length-replicate {0} {A = ℕ} (2 * l .depth) 32, x .end, y .end, z .end, u .end, v .end) in
+    put-as (entry-is f b l)
+    (put-then (put-then (put-then (put-then x y (omega (arith, z .end, u .end, v .end))) z (omega (arith, u .end, v .end))) u (omega (arith, v .end))) v o)
