@@ -1,85 +1,22 @@
 // Screens itinerary.bin under policy.bin, runs script.bin, and writes the verdict, each step's answer and the end.
-use libc::STDOUT_FILENO;
 use model::Refusal;
 use model::Screen;
 use model::Screened;
 use model::Verdict;
 
-// How many bytes of a file stand in its buffer, and whether it has more.
-struct Loaded {
-    len: usize,
-    more: bool,
-}
-
-// Reads a file into the buffer, and one further byte where the buffer is full. A file that can't be opened counts as
-// empty, and a read that fails as the end of the file.
-fn load(path: &[u8], buffer: &mut [u8]) -> Loaded {
-    let fd = os::open_read(path);
-    if fd < 0 {
-        return Loaded {
-            len: 0,
-            more: false,
-        };
-    }
-    let n = io::read_full(fd, buffer);
-    let mut one = [0u8; 1];
-    let mut m: usize = 0;
-    if n == buffer.len() {
-        m = io::read_full(fd, &mut one);
-    }
-    libc::close(fd);
-    Loaded {
-        len: n,
-        more: m == 1,
-    }
-}
-
-// Reads a file of at most max bytes into a buffer of one byte more, and answers the length to lend: a file that is too
-// long is lent with the one byte too many, for the library to refuse.
-fn load_most(path: &[u8], buffer: &mut [u8], max: usize) -> usize {
-    if buffer.len() <= max {
-        return 0;
-    }
-    let l = load(path, &mut buffer[..max]);
-    if l.more {
-        return max + 1;
-    }
-    l.len
-}
-
-fn text(bytes: &[u8]) {
-    io::write_all(STDOUT_FILENO, bytes);
-}
-
-fn number(n: u64) {
-    io::print_decimal(STDOUT_FILENO, n);
-}
-
-// A number and the space that parts it from the next field.
-fn field(n: u64) {
-    number(n);
-    text(b" ");
-}
-
-// A number and the end of the line.
-fn last(n: u64) {
-    number(n);
-    text(b"\n");
-}
-
 fn show_verdict(v: Verdict) {
     match v {
         Verdict::Exposed(k) => {
-            text(b"exposed ");
-            field(k as u64);
+            files::text(b"exposed ");
+            files::field(k as u64);
         }
         Verdict::Hinted(k) => {
-            text(b"hinted ");
-            field(k as u64);
+            files::text(b"hinted ");
+            files::field(k as u64);
         }
         Verdict::Sealed => {
-            text(b"sealed ");
-            field(0);
+            files::text(b"sealed ");
+            files::field(0);
         }
     }
 }
@@ -104,9 +41,9 @@ fn show_step(script: &[u8], answers: &[u8], k: usize) {
     if answers.len() <= k {
         return;
     }
-    field(word(script[at], script[at + 1]));
-    field(word(script[at + 2], script[at + 3]));
-    last(wide(answers[k]));
+    files::field(word(script[at], script[at + 1]));
+    files::field(word(script[at + 2], script[at + 3]));
+    files::last(wide(answers[k]));
 }
 
 // One line for each step.
@@ -121,23 +58,21 @@ fn show_steps(script: &[u8], answers: &[u8]) {
 
 fn show_end(s: Screen) {
     let c = s.counts;
-    text(b"end ");
-    field(c.ins as u64);
-    field(c.outs as u64);
-    field(c.opens as u64);
-    last(s.left as u64);
+    files::text(b"end ");
+    files::field(c.ins as u64);
+    files::field(c.outs as u64);
+    files::field(c.opens as u64);
+    files::last(s.left as u64);
 }
 
 fn show_refusal(r: Refusal) {
-    text(b"refused ");
-    field(r.number as u64);
-    last(r.record as u64);
+    files::refusal(b"refused ", r);
 }
 
 fn show_screen(s: Screen, script: &[u8], answers: &[u8]) {
     let v = s.verdict;
     show_verdict(v);
-    last(s.ones as u64);
+    files::last(s.ones as u64);
     show_steps(script, answers);
     show_end(s);
 }
@@ -176,9 +111,9 @@ fn main() {
     let mut policy = [0u8; 65];
     let mut script = [0; 4096];
     let mut answers = [0; 1024];
-    let i = load_most(b"itinerary.bin", &mut it, 8192);
-    let p = load_most(b"policy.bin", &mut policy, 64);
-    let l = load(b"script.bin", &mut script);
+    let i = files::load_most(b"itinerary.bin", &mut it, 8192);
+    let p = files::load_most(b"policy.bin", &mut policy, 64);
+    let l = files::load(b"script.bin", &mut script);
     let z = l.len;
     // a script that is too long has no room for its answers, for the library to refuse
     let n = if l.more { 0 } else { z / 4 };

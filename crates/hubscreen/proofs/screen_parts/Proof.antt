@@ -5,11 +5,6 @@ use native.Mathlib.Omega.{arith}
 use borrow.Author.Needs.{needs}
 use Rattle.hubscreen.proofs.screen_parts.Statement.{statement}
 use Rattle.hubscreen.proofs.screen_parts.Tie as tie
-use Rattle.hubscreen.proofs.screen_parts.Reads as reads
-use Rattle.hubscreen.proofs.screen_parts.Lts as lts
-use Rattle.hubscreen.proofs.show_refusal.Reads as show-refusal-reads
-use Rattle.hubscreen.proofs.show_screen.Reads as show-screen-reads
-use Rattle.screen.proofs.screen.Reads as screen-reads
 
 -- src/main.rt:157:9
 returns : tie.Need-returns

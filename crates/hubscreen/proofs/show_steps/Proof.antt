@@ -3,9 +3,6 @@ use Prim.Native.Nat.{_≤_, _-_}
 use native.Mathlib.Omega.{arith}
 use Rattle.hubscreen.proofs.show_steps.Statement.{statement}
 use Rattle.hubscreen.proofs.show_steps.Tie as tie
-use Rattle.hubscreen.proofs.show_steps.Reads as reads
-use Rattle.hubscreen.proofs.show_steps.Lts as lts
-use Rattle.hubscreen.proofs.show_step.Reads as show-step-reads
 
 abbrev Inv-loop : tie.InvT-loop
 Inv-loop script answers n k₀ k = k ≤ n

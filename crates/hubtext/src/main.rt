@@ -1,0 +1,52 @@
+// Reads itinerary.txt, the text form of an itinerary, and writes the itinerary's bytes. Where the text has a fault it
+// writes none, and one line on standard error: the lowest line at fault, and the cause.
+use libc::STDERR_FILENO;
+use textform::TextRead;
+
+// Room for the longest text of 1,024 lines, and one byte more: a longer text has a line at fault within it.
+fn room() -> [u8; 1061889] {
+    [0u8; 1061889]
+}
+
+fn error(bytes: &[u8]) {
+    io::write_all(STDERR_FILENO, bytes);
+}
+
+// The words of a cause, by its number in specs/Reading.antt of textform.
+fn show_cause(cause: u8) {
+    match cause {
+        1 => error(b"more than 1024 records\n"),
+        2 => error(b"indented by an odd number of spaces\n"),
+        3 => error(b"indented by more than two spaces below the line before\n"),
+        4 => error(b"no word ambient, in, out or open with a space after it\n"),
+        5 => error(b"no number for a label\n"),
+        6 => error(
+            b"label wrong for its kind: 1 to 63 on an ambient, 64 to 127 on in, out and open\n",
+        ),
+        7 => error(b"no space and number for a name after the label\n"),
+        8 => error(b"name over 63\n"),
+        9 => error(b"something after the name\n"),
+        _ => error(b"no end of line after the name\n"),
+    }
+}
+
+fn show_fault(line: u16, cause: u8) {
+    error(b"line ");
+    io::print_decimal(STDERR_FILENO, line as u64);
+    error(b": ");
+    show_cause(cause);
+}
+
+fn convert(text: &[u8], it: &mut [u8]) {
+    match textform::read_text(text, it) {
+        TextRead::Records(k) => files::first(it, 8 * (k as usize)),
+        TextRead::Fault { line, cause } => show_fault(line, cause),
+    }
+}
+
+fn main() {
+    let mut text = room();
+    let mut it = [0u8; 8192];
+    let n = files::load_most(b"itinerary.txt", &mut text, 1061888);
+    convert(&text[..n], &mut it);
+}
