@@ -2,6 +2,7 @@
 pub mod Nesting
 pub mod Lines
 pub mod Identity
+pub mod Complete
 pub mod Scanning
 pub mod Exact
 pub mod Placing
