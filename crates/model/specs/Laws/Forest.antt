@@ -39,7 +39,7 @@ tally-same f g (suc n) h = rw (h (suc n) (omega arith), tally-same f g n (λ x l
 unfoldable pub mark : ℕ → (ℕ → Bool) → ℕ → Bool
 mark j f x = eqb x j || f x
 
-mark-other : (f : ℕ → Bool) (j x : ℕ) → x ≢ j → mark j f x ≡ f x
+pub mark-other : (f : ℕ → Bool) (j x : ℕ) → x ≢ j → mark j f x ≡ f x
 unfolding mark
 mark-other f j x h = rw (ne-eqb x j h)
 

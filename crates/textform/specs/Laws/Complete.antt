@@ -13,7 +13,7 @@ use native.Mathlib.Omega.{arith}
 use Rattle.model.specs.Finite.{digit, lowest, tally}
 use Rattle.model.specs.Laws.Bytes.{valid-wf}
 use Rattle.model.specs.Laws.Finite.{lowest-none, lowest-some}
-use Rattle.model.specs.Laws.Forest.{Depth, depth-unique, digit-le, mark, root, tally-le, tally-mark, under, under-of}
+use Rattle.model.specs.Laws.Forest.{Depth, depth-unique, digit-le, mark, mark-other, root, tally-le, tally-mark, under, under-of}
 use Rattle.model.specs.Laws.Updates.{at-root}
 use Rattle.model.specs.Laws.WellFormed.{WellFormed, alive-in, alive-pos, and-left, and-right, parent-not-self}
 use Rattle.model.specs.Records.{at, parentOf, records}
@@ -21,16 +21,12 @@ use Rattle.model.specs.Refusals.{pass}
 use Rattle.model.specs.Validity.{validity}
 use Rattle.model.specs.declared.Rec.{Rec}
 use Rattle.textform.specs.Laws.Identity.{next-visited, walk-end}
-use Rattle.textform.specs.Laws.Nesting.{walk-next}
+use Rattle.textform.specs.Laws.Nesting.{child-is, walk-next}
 use Rattle.textform.specs.Writing.{childAfter, childOr, isChild, nextFrom, orZero, walk, walkFrom}
 use Rattle.textform.specs.declared.Visit.{Visit}
 
 -- a set of numbers, and one more
 module _ (f : ℕ → Bool) (c : ℕ) where
-  mark-other : (x : ℕ) → x ≢ c → mark c f x ≡ f x
-  unfolding mark
-  mark-other x h = rw (ne-eqb x c h)
-
   mark-self : mark c f c ≡ true
   unfolding mark
   mark-self = rw (eq-eqb c c refl)
@@ -40,7 +36,7 @@ module _ (f : ℕ → Bool) (c : ℕ) where
     where
       go : Dec (x ≡ c) → mark c f x ≡ true
       go (yes e) = rw e mark-self
-      go (no e) = mark-other x e ∙ h
+      go (no e) = mark-other f c x e ∙ h
 
 -- a set with as many numbers as there are has them all
 tally-full : (f : ℕ → Bool) (n : ℕ) → n ≤ tally f n → (x : ℕ) → x ≢ 0 → x ≤ n → f x ≡ true
@@ -63,12 +59,8 @@ module _ (its : List Rec) (p j : ℕ) where
   unfolding isChild
   child-of h = record { alive = eqb-false _ _ (not-true _ (and-left _ _ h)); parent = eqb-true _ _ (and-right (not (eqb (at its j .kind) 0)) _ h) }
 
-  child-yes : Child its p j → isChild its p j ≡ true
-  unfolding isChild
-  child-yes k = rw (ne-eqb _ _ (k .alive), eq-eqb _ _ (k .parent))
-
   not-child : isChild its p j ≡ false → Child its p j → ⊥
-  not-child h k = true≢false (sym (child-yes k) ∙ h)
+  not-child h k = true≢false (sym (child-is its p j (k .alive) (k .parent)) ∙ h)
 
 -- what the next child is
 data NextChild (its : List Rec) (p after c : ℕ) : Type 0 where

@@ -87,7 +87,7 @@ module _ {its : List Rec} {m d : ℕ} {above : List ℕ} (w : Stage its m d abov
       go (no u) = omega (arith, rises e d (omega arith) (omega arith), w .last)
 
 -- the child test, either way
-child-is : (its : List Rec) (p j : ℕ) → at its j .kind ≢ 0 → parentOf its j ≡ p → isChild its p j ≡ true
+pub child-is : (its : List Rec) (p j : ℕ) → at its j .kind ≢ 0 → parentOf its j ≡ p → isChild its p j ≡ true
 unfolding isChild
 child-is its p j k e = rw (ne-eqb _ _ k, eq-eqb _ _ e)
 
