@@ -9,9 +9,9 @@ use mathlib.Core.Path.{_∙_, _≡_, ap, refl, sym}
 use native.Mathlib.Decide.{decLt, ℕ-discrete}
 use native.Mathlib.Nat.{eq-or-lt-of-le}
 use native.Mathlib.Omega.{arith}
-use Rattle.model.specs.Climbing.{container, nearest, nesting}
+use Rattle.model.specs.Climbing.{container, labelled, nearest, nesting}
 use Rattle.model.specs.Laws.Bytes.{at-whole, length-records, valid-wf}
-use Rattle.model.specs.Laws.Containers.{nearest-amb, nearest-small, nearest-up}
+use Rattle.model.specs.Laws.Containers.{labelled-amb, labelled-other, nearest-amb, nearest-small, nearest-up}
 use Rattle.model.specs.Laws.Forest.{above, depth-le}
 use Rattle.model.specs.Laws.Views.{view-top}
 use Rattle.model.specs.Laws.WellFormed.{WellFormed, parent-in, small}
@@ -93,6 +93,25 @@ pub label-positive : {s labels : List ℕ} (i : ℕ) → Labels s labels → 64 
 label-positive zero w n = absurd (omega (arith, w .root))
 label-positive (suc i) w n = omega arith
 
+-- what record i, which is r, and its parent's label k decide
+module _ {s labels : List ℕ} (w : Labelable s labels) (i : ℕ) (r : Rec) (e : r ≡ decode s i) (z : 1 ≤ i) (k : ℕ) (q : k ≡ labelled r (getD labels (r .parent) 0)) where
+  pub label-decided : k < 64 → k ≡ nearest (records s) i
+  label-decided l = go (ℕ-discrete (r .kind) 1)
+    where
+      go : Dec (r .kind ≡ 1) → k ≡ nearest (records s) i
+      go (yes a) = q ∙ labelled-amb r _ (ambient-is r a) ∙ nearest-here s (w .valid) i r e a
+      go (no a) =
+          let u = q ∙ labelled-other r _ (ambient-not r a) in
+          u ∙ w .decided .told (r .parent) (parent-near s (w .valid) i r e) (omega (arith, u)) ∙ nearest-above s (w .valid) i r e (λ y. omega (arith, y)) a
+
+  -- or leave open
+  pub label-open : 64 ≤ k → (r .kind ≢ 1) × (64 ≤ getD labels (r .parent) 0)
+  label-open l = go (ℕ-discrete (r .kind) 1)
+    where
+      go : Dec (r .kind ≡ 1) → (r .kind ≢ 1) × (64 ≤ getD labels (r .parent) 0)
+      go (yes a) = absurd (omega (arith, q ∙ labelled-amb r _ (ambient-is r a), label-small s (w .valid) i r e a))
+      go (no a) = (a, omega (arith, q ∙ labelled-other r _ (ambient-not r a)))
+
 -- with other labels
 pub labelable : {s labels labels′ : List ℕ} → Labelable s labels → length labels′ ≡ length labels → Labels s labels′ → Labelable s labels′
 labelable w e m = record { valid = w .valid; room = rw e (w .room); decided = m }
@@ -115,12 +134,13 @@ pub decided-root : {s labels : List ℕ} → Labels s labels → (j : ℕ) → j
 decided-root w zero l = omega (arith, w .root)
 decided-root w (suc j) l = absurd (omega arith)
 
-pub decided-next : {s labels labels′ : List ℕ} (i : ℕ) → ((j : ℕ) → j ≤ i → getD labels j 0 < 64) → Labelled s labels (i + 1) labels′ → (j : ℕ) → j ≤ i + 1 → getD labels′ j 0 < 64
-decided-next {labels′ = labels′} i f w j l = go (ℕ-discrete j (i + 1))
+pub decided-next : {s labels labels′ x : List ℕ} (i : ℕ) → Labelable s labels → ((j : ℕ) → j ≤ i → getD labels j 0 < 64) → Labelled s labels (i + 1) labels′ → length labels′ ≡ length labels → x ≡ labels′ →
+    (Labelable s x) × (length x ≡ length labels) × ((j : ℕ) → j ≤ i + 1 → getD x j 0 < 64)
+decided-next {labels′ = labels′} i w f n e q = rw q (labelable w e (n .decided), e, λ j l. go j l (ℕ-discrete j (i + 1)))
   where
-    go : Dec (j ≡ i + 1) → getD labels′ j 0 < 64
-    go (yes q) = rw q (w .here)
-    go (no q) = w .stays j (f j (omega arith))
+    go : (j : ℕ) → j ≤ i + 1 → Dec (j ≡ i + 1) → getD labels′ j 0 < 64
+    go j l (yes u) = rw u (n .here)
+    go j l (no u) = n .stays j (f j (omega arith))
 
 pub decided-all : {s labels : List ℕ} (n : ℕ) → Labelable s labels → ((j : ℕ) → j ≤ n → getD labels j 0 < 64) → count s ≤ n → Nearests s labels
 decided-all n w f l = record { room = w .room; is = λ j m. w .decided .told j m (f j (omega arith)) }

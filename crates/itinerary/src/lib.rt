@@ -8,7 +8,7 @@ ghost use mathlib.Core.Path.{_≡_};
 ghost use Prim.Native.Nat.{_*_, _<_, _≤_, _%_};
 ghost use lib.ListN.{length};
 ghost use Rattle.model.specs.Records.{byteOf, count, decode, nested, records, word};
-ghost use Rattle.model.specs.Climbing.{container, nearest, reaches, standing, viewFrom};
+ghost use Rattle.model.specs.Climbing.{container, labelled, nearest, reaches, standing, viewFrom};
 ghost use Rattle.model.specs.Refusals.{answer, eachOf, pass};
 ghost use Rattle.model.specs.Validity.{climbCheck, goneRight, labelRight, nameRight, parentRight, recordCheck, spareRight, validity};
 ghost use Rattle.model.specs.Calls.{containerAnswer, validateAnswer};
@@ -273,6 +273,13 @@ pub fn validate(it: &[u8]) -> Validated
     climbs(it, n)
 }
 
+// The label of an ambient, and otherwise what is above.
+fn labelled(r: Rec, above: u8) -> u8
+    ensures { λ x. ⌜ x ≡ labelled r above ⌝ }
+{
+    if r.kind == 1 { r.label } else { above }
+}
+
 // The label of the nearest ambient from record i on upwards; inner. A label in labels is decided, 0 for the environment;
 // it is looked up at the parent, and the climb notes it for the records it passed, so that none is climbed from twice.
 fn nearest(it: &[u8], labels: &mut [u8], i: u16, left: usize) -> u8
@@ -280,14 +287,10 @@ fn nearest(it: &[u8], labels: &mut [u8], i: u16, left: usize) -> u8
     ensures { λ r. ⌜ (r ≡ nearest (records (now (it .entry))) i) × (Labelled (now (it .entry)) (now (labels .entry)) i (now (labels .exit))) ⌝ }
 {
     let r = record_at(it, i);
-    if r.kind == 1 {
-        labels[i as usize] = r.label;
-        return r.label;
-    }
-    let above = labels[r.parent as usize];
-    if above < 64 {
-        labels[i as usize] = above;
-        return above;
+    let here = labelled(r, labels[r.parent as usize]);
+    if here < 64 {
+        labels[i as usize] = here;
+        return here;
     }
     if left == 0 {
         return 0;
@@ -297,7 +300,7 @@ fn nearest(it: &[u8], labels: &mut [u8], i: u16, left: usize) -> u8
     label
 }
 
-// The label of the nearest ambient from each number on upwards; inner.
+// The label of the nearest ambient from each number on upwards; inner. Where the parent's is decided no call is made.
 pub fn nearest_labels(it: &[u8], labels: &mut [u8])
     requires { ⌜ Labelable (now it) (now labels) ⌝ }
     ensures { λ _. ⌜ Nearests (now (it .entry)) (now (labels .exit)) ⌝ }
@@ -305,7 +308,13 @@ pub fn nearest_labels(it: &[u8], labels: &mut [u8])
     let n = (it.len() / 8) as u16;
     let mut i: u16 = 0;
     while i < n {
-        nearest(it, labels, i + 1, n as usize);
+        let r = record_at(it, i + 1);
+        let here = labelled(r, labels[r.parent as usize]);
+        if here < 64 {
+            labels[(i as usize) + 1] = here;
+        } else {
+            nearest(it, labels, i + 1, n as usize);
+        }
         i += 1;
     }
 }

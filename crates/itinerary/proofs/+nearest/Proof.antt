@@ -6,10 +6,11 @@ use borrow.Fn.PlainCycle.{Measures, and, falls, is}
 use lib.ListN.{length-set}
 use mathlib.Core.Path.{_∙_}
 use native.Mathlib.Omega.{arith}
-use Rattle.itinerary.specs.Nearest.{label-more, label-positive, near-above, near-left, nearest-above, nearest-here, parent-near}
+use Rattle.itinerary.specs.Nearest.{label-decided, label-more, label-open, label-positive, near-above, near-left, nearest-above, parent-near}
 use Rattle.itinerary.proofs.nearest.Reads as nearest
 use Rattle.itinerary.proofs.nearest.Kinds as nearest-kinds
 use Rattle.itinerary.proofs.+nearest.Lts-nearest as nearest-lts
+use Rattle.itinerary.proofs.labelled.Reads as labelled-reads
 use Rattle.itinerary.proofs.record_at.Reads as record-at-reads
 use Rattle.itinerary.proofs.+nearest.{statement}
 use Rattle.itinerary.proofs.+nearest.Tie.{close}
@@ -26,22 +27,58 @@ nearest-below t = and 2 nearest-kinds.ps (falls 2 nearest-kinds.ps _<_ μ-neares
 nearest-record-at-requires : (t : ℕ) → nearest-lts.Need-record-at-requires (
   record-at-reads.Asked,
   record-at-reads.Learnt,
+  labelled-reads.Asked,
+  labelled-reads.Learnt,
   nearest-below t,
   nearest.Post,
 ) (nearest-at t) nearest.Post
 nearest-record-at-requires t c κs = search needs
 
-nearest-slice-write-labels : (t : ℕ) → nearest-lts.Need-slice-write-labels (
+nearest-cast-labelled : (t : ℕ) → nearest-lts.Need-cast-labelled (
   record-at-reads.Asked,
   record-at-reads.Learnt,
+  labelled-reads.Asked,
+  labelled-reads.Learnt,
   nearest-below t,
   nearest.Post,
 ) (nearest-at t) nearest.Post
-nearest-slice-write-labels t c = omega (arith, c .before .before .before .before .before .pre .1 .0 .room, c .before .before .before .before .before .pre .1 .1 .inside)
+nearest-cast-labelled t c = search needs
+
+nearest-slice-read-labelled : (t : ℕ) → nearest-lts.Need-slice-read-labelled (
+  record-at-reads.Asked,
+  record-at-reads.Learnt,
+  labelled-reads.Asked,
+  labelled-reads.Learnt,
+  nearest-below t,
+  nearest.Post,
+) (nearest-at t) nearest.Post
+nearest-slice-read-labelled t c = omega (arith, parent-near _ (c .before .before .before .before .before .pre .1 .0 .valid) _ _ (c .before .before .record-at .ensures), c .before .before .before .before .before .pre .1 .0 .room)
+
+nearest-labelled-requires : (t : ℕ) → nearest-lts.Need-labelled-requires (
+  record-at-reads.Asked,
+  record-at-reads.Learnt,
+  labelled-reads.Asked,
+  labelled-reads.Learnt,
+  nearest-below t,
+  nearest.Post,
+) (nearest-at t) nearest.Post
+nearest-labelled-requires t c κs = search needs
+
+nearest-slice-write-labels : (t : ℕ) → nearest-lts.Need-slice-write-labels (
+  record-at-reads.Asked,
+  record-at-reads.Learnt,
+  labelled-reads.Asked,
+  labelled-reads.Learnt,
+  nearest-below t,
+  nearest.Post,
+) (nearest-at t) nearest.Post
+nearest-slice-write-labels t c = omega (arith, c .before .before .before .before .before .before .before .pre .1 .0 .room, c .before .before .before .before .before .before .before .pre .1 .1 .inside)
 
 nearest-same-length : (t : ℕ) → nearest-lts.Need-same-length (
   record-at-reads.Asked,
   record-at-reads.Learnt,
+  labelled-reads.Asked,
+  labelled-reads.Learnt,
   nearest-below t,
   nearest.Post,
 ) (nearest-at t) nearest.Post
@@ -50,68 +87,31 @@ nearest-same-length t c = simp length-set
 nearest-returns : (t : ℕ) → nearest-lts.Need-returns (
   record-at-reads.Asked,
   record-at-reads.Learnt,
+  labelled-reads.Asked,
+  labelled-reads.Learnt,
   nearest-below t,
   nearest.Post,
 ) (nearest-at t) nearest.Post
 nearest-returns t c =
-    let w = c .before .before .before .before .before .pre .1 in
-    let h = nearest-here _ (c .before .before .before .before .before .pre .1 .0 .valid) _ _ (c .before .before .record-at .ensures) (c .if1 .taken) in
-    (h, label-more (w .0 .valid) (w .0 .decided) (λ j n. n) _ _ (omega (arith, c .before .before .before .before .before .pre .1 .0 .room, c .before .before .before .before .before .pre .1 .1 .inside)) (w .2) h)
-
-nearest-cast-above : (t : ℕ) → nearest-lts.Need-cast-above (
-  record-at-reads.Asked,
-  record-at-reads.Learnt,
-  nearest-below t,
-  nearest.Post,
-) (nearest-at t) nearest.Post
-nearest-cast-above t c = search needs
-
-nearest-slice-read-above : (t : ℕ) → nearest-lts.Need-slice-read-above (
-  record-at-reads.Asked,
-  record-at-reads.Learnt,
-  nearest-below t,
-  nearest.Post,
-) (nearest-at t) nearest.Post
-nearest-slice-read-above t c = omega (arith, parent-near _ (c .before .before .before .before .before .before .before .pre .1 .0 .valid) _ _ (c .before .before .before .before .record-at .ensures), c .before .before .before .before .before .before .before .pre .1 .0 .room)
-
-nearest-slice-write-labels-2 : (t : ℕ) → nearest-lts.Need-slice-write-labels-2 (
-  record-at-reads.Asked,
-  record-at-reads.Learnt,
-  nearest-below t,
-  nearest.Post,
-) (nearest-at t) nearest.Post
-nearest-slice-write-labels-2 t c = omega (arith, c .before .before .before .before .before .before .before .before .pre .1 .0 .room, c .before .before .before .before .before .before .before .before .pre .1 .1 .inside)
-
-nearest-same-length-2 : (t : ℕ) → nearest-lts.Need-same-length-2 (
-  record-at-reads.Asked,
-  record-at-reads.Learnt,
-  nearest-below t,
-  nearest.Post,
-) (nearest-at t) nearest.Post
-nearest-same-length-2 t c = simp length-set
+    let w = c .before .before .before .before .before .before .before .pre .1 in
+    let h = label-decided (c .before .before .before .before .before .before .before .pre .1 .0) _ _ (c .before .before .before .before .record-at .ensures) (c .before .before .before .before .before .before .before .pre .1 .2) _ (c .before .labelled .ensures) (c .if1 .taken) in
+    (h, label-more (w .0 .valid) (w .0 .decided) (λ j n. n) _ _ (omega (arith, c .before .before .before .before .before .before .before .pre .1 .0 .room, c .before .before .before .before .before .before .before .pre .1 .1 .inside)) (w .2) h)
 
 nearest-returns-2 : (t : ℕ) → nearest-lts.Need-returns-2 (
   record-at-reads.Asked,
   record-at-reads.Learnt,
+  labelled-reads.Asked,
+  labelled-reads.Learnt,
   nearest-below t,
   nearest.Post,
 ) (nearest-at t) nearest.Post
-nearest-returns-2 t c =
-    let w = c .before .before .before .before .before .before .before .before .pre .1 in
-    let h = w .0 .decided .told _ (parent-near _ (c .before .before .before .before .before .before .before .before .pre .1 .0 .valid) _ _ (c .before .before .before .before .before .record-at .ensures)) (c .if2 .taken) ∙ nearest-above _ (c .before .before .before .before .before .before .before .before .pre .1 .0 .valid) _ _ (c .before .before .before .before .before .record-at .ensures) (λ q. omega (arith, q, c .before .before .before .before .before .before .before .before .pre .1 .2)) (c .before .before .before .if1 .left) in
-    (h, label-more (w .0 .valid) (w .0 .decided) (λ j n. n) _ _ (omega (arith, c .before .before .before .before .before .before .before .before .pre .1 .0 .room, c .before .before .before .before .before .before .before .before .pre .1 .1 .inside)) (w .2) h)
-
-nearest-returns-3 : (t : ℕ) → nearest-lts.Need-returns-3 (
-  record-at-reads.Asked,
-  record-at-reads.Learnt,
-  nearest-below t,
-  nearest.Post,
-) (nearest-at t) nearest.Post
-nearest-returns-3 t c = absurd (near-left (c .before .before .before .before .before .before .before .before .before .pre .1 .1) (λ q. omega (arith, q, c .before .before .before .before .before .before .before .before .before .pre .1 .2)) (c .if3 .taken))
+nearest-returns-2 t c = absurd (near-left (c .before .before .before .before .before .before .before .before .pre .1 .1) (λ q. omega (arith, q, c .before .before .before .before .before .before .before .before .pre .1 .2)) (c .if2 .taken))
 
 nearest-sub-nearest : (t : ℕ) → nearest-lts.Need-sub-nearest (
   record-at-reads.Asked,
   record-at-reads.Learnt,
+  labelled-reads.Asked,
+  labelled-reads.Learnt,
   nearest-below t,
   nearest.Post,
 ) (nearest-at t) nearest.Post
@@ -120,62 +120,70 @@ nearest-sub-nearest t c = omega arith
 nearest-nearest-requires : (t : ℕ) → nearest-lts.Need-nearest-requires (
   record-at-reads.Asked,
   record-at-reads.Learnt,
+  labelled-reads.Asked,
+  labelled-reads.Learnt,
   nearest-below t,
   nearest.Post,
 ) (nearest-at t) nearest.Post
 nearest-nearest-requires t c κs =
-    let w = c .before .before .before .before .before .before .before .before .before .before .pre in
-    (omega (arith, w .0), (w .1 .0, near-above _ (c .before .before .before .before .before .before .before .before .before .before .pre .1 .0 .valid) _ _ (c .before .before .before .before .before .before .before .record-at .ensures) (λ q. omega (arith, q, c .before .before .before .before .before .before .before .before .before .before .pre .1 .2)) (w .1 .1), label-positive _ (w .1 .0 .decided) (c .before .before .if2 .left)))
+    let w = c .before .before .before .before .before .before .before .before .before .pre in
+    (omega (arith, w .0), (w .1 .0, near-above _ (c .before .before .before .before .before .before .before .before .before .pre .1 .0 .valid) _ _ (c .before .before .before .before .before .before .record-at .ensures) (λ q. omega (arith, q, c .before .before .before .before .before .before .before .before .before .pre .1 .2)) (w .1 .1), label-positive _ (w .1 .0 .decided) (label-open (c .before .before .before .before .before .before .before .before .before .pre .1 .0) _ _ (c .before .before .before .before .before .before .record-at .ensures) (c .before .before .before .before .before .before .before .before .before .pre .1 .2) _ (c .before .before .before .labelled .ensures) (c .before .before .if1 .left) .1)))
 
-nearest-slice-write-labels-3 : (t : ℕ) → nearest-lts.Need-slice-write-labels-3 (
+nearest-slice-write-labels-2 : (t : ℕ) → nearest-lts.Need-slice-write-labels-2 (
   record-at-reads.Asked,
   record-at-reads.Learnt,
+  labelled-reads.Asked,
+  labelled-reads.Learnt,
   nearest-below t,
   nearest.Post,
 ) (nearest-at t) nearest.Post
-nearest-slice-write-labels-3 t c = omega (arith, c .before .before .before .before .before .before .before .before .before .before .before .before .before .pre .1 .0 .room, c .before .before .before .before .before .before .before .before .before .before .before .before .before .pre .1 .1 .inside, c .before .before .nearest .kept .1 .0)
+nearest-slice-write-labels-2 t c = omega (arith, c .before .before .before .before .before .before .before .before .before .before .before .before .pre .1 .0 .room, c .before .before .before .before .before .before .before .before .before .before .before .before .pre .1 .1 .inside, c .before .before .nearest .kept .1 .0)
 
-nearest-same-length-3 : (t : ℕ) → nearest-lts.Need-same-length-3 (
+nearest-same-length-2 : (t : ℕ) → nearest-lts.Need-same-length-2 (
   record-at-reads.Asked,
   record-at-reads.Learnt,
+  labelled-reads.Asked,
+  labelled-reads.Learnt,
   nearest-below t,
   nearest.Post,
 ) (nearest-at t) nearest.Post
-nearest-same-length-3 t c = simp length-set (c .before .before .nearest .kept .1 .0)
+nearest-same-length-2 t c = simp length-set (c .before .before .nearest .kept .1 .0)
 
-nearest-returns-4 : (t : ℕ) → nearest-lts.Need-returns-4 (
+nearest-returns-3 : (t : ℕ) → nearest-lts.Need-returns-3 (
   record-at-reads.Asked,
   record-at-reads.Learnt,
+  labelled-reads.Asked,
+  labelled-reads.Learnt,
   nearest-below t,
   nearest.Post,
 ) (nearest-at t) nearest.Post
-nearest-returns-4 t c =
-    let w = c .before .before .before .before .before .before .before .before .before .before .before .before .before .pre .1 in
+nearest-returns-3 t c =
+    let w = c .before .before .before .before .before .before .before .before .before .before .before .before .pre .1 in
     let f = c .before .before .nearest .ensures in
-    let h = f .0 ∙ nearest-above _ (c .before .before .before .before .before .before .before .before .before .before .before .before .before .pre .1 .0 .valid) _ _ (c .before .before .before .before .before .before .before .before .before .before .record-at .ensures) (λ q. omega (arith, q, c .before .before .before .before .before .before .before .before .before .before .before .before .before .pre .1 .2)) (c .before .before .before .before .before .before .before .before .if1 .left) in
-    (h, label-more (w .0 .valid) (f .1 .decided) (f .1 .stays) _ _ (omega (arith, c .before .before .before .before .before .before .before .before .before .before .before .before .before .pre .1 .0 .room, c .before .before .before .before .before .before .before .before .before .before .before .before .before .pre .1 .1 .inside, c .before .before .nearest .kept .1 .0)) (w .2) h)
+    let h = f .0 ∙ nearest-above _ (c .before .before .before .before .before .before .before .before .before .before .before .before .pre .1 .0 .valid) _ _ (c .before .before .before .before .before .before .before .before .before .record-at .ensures) (λ q. omega (arith, q, c .before .before .before .before .before .before .before .before .before .before .before .before .pre .1 .2)) (label-open (c .before .before .before .before .before .before .before .before .before .before .before .before .pre .1 .0) _ _ (c .before .before .before .before .before .before .before .before .before .record-at .ensures) (c .before .before .before .before .before .before .before .before .before .before .before .before .pre .1 .2) _ (c .before .before .before .before .before .before .labelled .ensures) (c .before .before .before .before .before .if1 .left) .0) in
+    (h, label-more (w .0 .valid) (f .1 .decided) (f .1 .stays) _ _ (omega (arith, c .before .before .before .before .before .before .before .before .before .before .before .before .pre .1 .0 .room, c .before .before .before .before .before .before .before .before .before .before .before .before .pre .1 .1 .inside, c .before .before .nearest .kept .1 .0)) (w .2) h)
 
 pub +nearest-spec : {M : Type 1} → statement M
 +nearest-spec = close μ-nearest λ t. nearest-lts.spec (
   record-at-reads.Asked,
   record-at-reads.Learnt,
+  labelled-reads.Asked,
+  labelled-reads.Learnt,
   nearest-below t,
   nearest.Post,
 )
     (nearest-at t)
     nearest.Post
     (nearest-record-at-requires t)
+    (nearest-cast-labelled t)
+    (nearest-slice-read-labelled t)
+    (nearest-labelled-requires t)
     (nearest-slice-write-labels t)
     (nearest-same-length t)
     (nearest-returns t)
-    (nearest-cast-above t)
-    (nearest-slice-read-above t)
-    (nearest-slice-write-labels-2 t)
-    (nearest-same-length-2 t)
     (nearest-returns-2 t)
-    (nearest-returns-3 t)
     (nearest-sub-nearest t)
     (nearest-nearest-requires t)
-    (nearest-slice-write-labels-3 t)
-    (nearest-same-length-3 t)
-    (nearest-returns-4 t)
+    (nearest-slice-write-labels-2 t)
+    (nearest-same-length-2 t)
+    (nearest-returns-3 t)

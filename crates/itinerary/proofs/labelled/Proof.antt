@@ -1,0 +1,15 @@
+-- `itinerary::labelled` meets its contract.
+use mathlib.Core.Path.{sym}
+use Rattle.itinerary.specs.Laws.{ambient-is, ambient-not}
+use Rattle.model.specs.Laws.Containers.{labelled-amb, labelled-other}
+use Rattle.itinerary.proofs.labelled.Statement.{statement}
+use Rattle.itinerary.proofs.labelled.Tie as tie
+
+returns : tie.Need-returns
+returns c = sym (labelled-amb _ _ (ambient-is _ (c .if1 .taken)))
+
+returns-2 : tie.Need-returns-2
+returns-2 c = sym (labelled-other _ _ (ambient-not _ (c .if1 .left)))
+
+pub labelled-spec : {M : Type 1} → statement M
+labelled-spec = tie.close (tie.spec returns returns-2)
