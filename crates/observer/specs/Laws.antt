@@ -26,7 +26,7 @@ use Rattle.model.specs.Tables.{suspects, tableRight}
 use Rattle.model.specs.Validity.{validity}
 use Rattle.model.specs.declared.Rec.{Rec}
 use Rattle.model.specs.declared.Refusal.{Refusal}
-use Rattle.observer.specs.Marks.{Markable, Marked}
+use Rattle.observer.specs.Marks.{Markable, Marked, markOf}
 
 -- r is record i of a valid itinerary
 module _ (s : List ℕ) (v : validity s ≡ pass) (i : ℕ) (r : Rec) (e : r ≡ decode s i) (S : ℕ → Bool) where
@@ -47,6 +47,27 @@ module _ {s table marks : List ℕ} (w : Marked s table marks) (i v : ℕ) (l : 
       go : (j : ℕ) → (getD (set marks i v) j 0 ≡ 0 → ⊥) → Dec (j ≡ i) → hidden (records s) (suspects table) j ≡ eqb (getD (set marks i v) j 0) 2
       go j n (yes q) = rw q (h ∙ ap (λ x. eqb x 2) (sym (getD-set-same marks i v 0 l)))
       go j n (no q) = let e = getD-set-other marks i j v 0 q in w .told j (λ o. n (e ∙ o)) ∙ ap (λ x. eqb x 2) (sym e)
+
+-- what record i, which is r, and its parent's mark decide
+module _ {s table marks : List ℕ} (w : Markable s table marks) (i : ℕ) (r : Rec) (e : r ≡ decode s i) (z : i ≢ 0) (b : Bool) (q : b ≡ isSuspect (suspects table) r) (k : ℕ) (m : k ≡ markOf b (getD marks (r .parent) 0)) where
+  pub mark-decided : k ≢ 0 → hidden (records s) (suspects table) i ≡ eqb k 2
+  unfolding markOf
+  mark-decided n = go b refl
+    where
+      go : (t : Bool) → b ≡ t → hidden (records s) (suspects table) i ≡ eqb k 2
+      go true u = hidden-here s (w .valid) i r e (suspects table) (sym q ∙ u) ∙ sym (ap (λ x. eqb x 2) (m ∙ ap (λ t. markOf t (getD marks (r .parent) 0)) u))
+      go false u =
+          let v = m ∙ ap (λ t. markOf t (getD marks (r .parent) 0)) u in
+          sym (hidden-above s (w .valid) i r e (suspects table) z (sym q ∙ u)) ∙ w .marked .told (r .parent) (λ o. n (v ∙ o)) ∙ ap (λ x. eqb x 2) (sym v)
+
+  -- or leave open
+  pub mark-open : k ≡ 0 → (isSuspect (suspects table) r ≡ false) × (getD marks (r .parent) 0 ≡ 0)
+  unfolding markOf
+  mark-open n = go b refl
+    where
+      go : (t : Bool) → b ≡ t → (isSuspect (suspects table) r ≡ false) × (getD marks (r .parent) 0 ≡ 0)
+      go true u = absurd (omega (arith, n, m ∙ ap (λ t. markOf t (getD marks (r .parent) 0)) u))
+      go false u = (sym q ∙ u, sym (m ∙ ap (λ t. markOf t (getD marks (r .parent) 0)) u) ∙ n)
 
 -- with other marks
 pub markable : {s table marks marks′ : List ℕ} → Markable s table marks → length marks′ ≡ length marks → Marked s table marks′ → Markable s table marks′

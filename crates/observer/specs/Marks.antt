@@ -2,6 +2,7 @@
 use Prim.Native.Nat.{_<_, ℕ}
 use lib.Dec.{eqb}
 use lib.ListN.{getD, length}
+use mathlib.Core.Bool.{Bool, false, true}
 use mathlib.Core.List.{List}
 use mathlib.Core.Path.{_≡_}
 use Rattle.model.specs.Climbing.{hidden}
@@ -21,3 +22,8 @@ pub record Markable (s table marks : List ℕ) : Type 0 where
   pub table-long : length table ≡ 1544
   pub room : count s < length marks
   pub marked : Marked s table marks
+
+-- the mark of a record, by whether it is suspect and by the mark above
+unfoldable pub markOf : Bool → ℕ → ℕ
+markOf true above = 2
+markOf false above = above

@@ -15,7 +15,7 @@ ghost use Rattle.model.specs.Records.{records};
 ghost use Rattle.model.specs.Refusals.{pass};
 ghost use Rattle.model.specs.Tables.{suspects};
 ghost use Rattle.model.specs.Validity.{validity};
-ghost use Rattle.observer.specs.Marks.{Markable, Marked};
+ghost use Rattle.observer.specs.Marks.{Markable, Marked, markOf};
 
 // Whether a record is an ambient whose label is suspect; inner.
 fn suspect(table: &[u8], r: Rec) -> bool
@@ -28,22 +28,25 @@ fn suspect(table: &[u8], r: Rec) -> bool
     false
 }
 
-// Whether record i is hidden; inner. A mark is 1 for shown, the environment's too, and 2 for hidden. It is looked up at
-// the parent, and the climb marks the records it passed, so that no record is climbed from twice.
+// The mark of a record, by whether it is suspect and by the mark above: 1 for shown, 2 for hidden, 0 for undecided.
+fn mark_of(suspect: bool, above: u8) -> u8
+    ensures { λ m. ⌜ m ≡ markOf suspect above ⌝ }
+{
+    if suspect { 2 } else { above }
+}
+
+// Whether record i is hidden; inner. The environment's mark is 1. The mark is looked up at the parent, and the climb
+// marks the records it passed, so that no record is climbed from twice.
 fn hidden(it: &[u8], table: &[u8], marks: &mut [u8], i: u16, left: usize) -> bool
     requires { ⌜ (Markable (now it) (now table) (now marks)) × (Near (now it) left i) × (1 ≤ i) ⌝ }
     ensures { λ b. ⌜ (b ≡ hidden (records (now (it .entry))) (suspects (now (table .entry))) i)
         × (Marked (now (it .entry)) (now (table .entry)) (now (marks .exit))) ⌝ }
 {
     let r = itinerary::record_at(it, i);
-    if suspect(table, r) {
-        marks[i as usize] = 2;
-        return true;
-    }
-    let above = marks[r.parent as usize];
-    if above != 0 {
-        marks[i as usize] = above;
-        return above == 2;
+    let here = mark_of(suspect(table, r), marks[r.parent as usize]);
+    if here != 0 {
+        marks[i as usize] = here;
+        return here == 2;
     }
     if left == 0 {
         return false;
@@ -54,6 +57,21 @@ fn hidden(it: &[u8], table: &[u8], marks: &mut [u8], i: u16, left: usize) -> boo
     }
     marks[i as usize] = 1;
     false
+}
+
+// As `hidden`; inner. Where the parent's mark decides no call is made: a call costs more than a record.
+fn settled(it: &[u8], table: &[u8], marks: &mut [u8], i: u16, left: usize) -> bool
+    requires { ⌜ (Markable (now it) (now table) (now marks)) × (Near (now it) left i) × (1 ≤ i) ⌝ }
+    ensures { λ b. ⌜ (b ≡ hidden (records (now (it .entry))) (suspects (now (table .entry))) i)
+        × (Marked (now (it .entry)) (now (table .entry)) (now (marks .exit))) ⌝ }
+{
+    let r = itinerary::record_at(it, i);
+    let here = mark_of(suspect(table, r), marks[r.parent as usize]);
+    if here != 0 {
+        marks[i as usize] = here;
+        return here == 2;
+    }
+    hidden(it, table, marks, i, left)
 }
 
 // Takes the hidden records off a sheet that is still the itinerary, with marks to climb by; inner.
@@ -71,7 +89,7 @@ fn hide(it: &[u8], table: &[u8], marks: &mut [u8], sheet: &mut [u8])
     let n = (it.len() / 8) as u16;
     let mut i: u16 = 0;
     while i < n {
-        if hidden(it, table, marks, i + 1, n as usize) {
+        if settled(it, table, marks, i + 1, n as usize) {
             itinerary::put_record(sheet, i + 1, gone);
         }
         i += 1;

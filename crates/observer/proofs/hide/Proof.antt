@@ -28,15 +28,15 @@ cast-n c = omega (arith, valid-few _ (c .before .before .before .before .pre .0 
 loop-holds : tie.Need-loop-holds Inv-loop μ-loop
 loop-holds c = (search needs, c .before .before .before .before .pre .0, refl, c .before .before .before .before .pre .1 ∙ written-none _ _)
 
-add-hidden : tie.Need-add-hidden Inv-loop μ-loop
-add-hidden c = omega (arith, valid-few _ (c .before .before .before .before .before .before .before .pre .0 .valid))
+add-settled : tie.Need-add-settled Inv-loop μ-loop
+add-settled c = omega (arith, valid-few _ (c .before .before .before .before .before .before .before .pre .0 .valid))
 
-cast-hidden : tie.Need-cast-hidden Inv-loop μ-loop
-cast-hidden c = omega (arith, valid-few _ (c .before .before .before .before .before .before .before .pre .0 .valid))
+cast-settled : tie.Need-cast-settled Inv-loop μ-loop
+cast-settled c = omega (arith, valid-few _ (c .before .before .before .before .before .before .before .pre .0 .valid))
 
-hidden-requires : tie.Need-hidden-requires Inv-loop μ-loop
+settled-requires : tie.Need-settled-requires Inv-loop μ-loop
 unfolding count
-hidden-requires c κs = (c .before .before .loop .inv .1, near-all _ (c .before .before .before .before .before .before .before .pre .0 .valid) _ (omega arith), omega arith)
+settled-requires c κs = (c .before .before .loop .inv .1, near-all _ (c .before .before .before .before .before .before .before .pre .0 .valid) _ (omega arith), omega arith)
 
 add-put-record : tie.Need-add-put-record Inv-loop μ-loop
 add-put-record c = omega (arith, valid-few _ (c .before .before .before .before .before .before .before .before .before .before .before .before .pre .0 .valid))
@@ -55,7 +55,7 @@ loop-again : tie.Need-loop-again Inv-loop μ-loop
 unfolding count
 loop-again c =
     let l = c .before .before .before .before .before .before .loop in
-    let h = c .before .before .before .hidden in
+    let h = c .before .before .before .settled in
     let w = c .before .before .before .before .before .before .before .before .before .before .before .pre in (
       omega arith,
       markable (l .inv .1) (h .kept .1 .1 .0) (h .ensures .1),
@@ -85,9 +85,9 @@ hide-spec =
     μ-loop
     cast-n
     loop-holds
-    add-hidden
-    cast-hidden
-    hidden-requires
+    add-settled
+    cast-settled
+    settled-requires
     add-put-record
     put-record-requires
     add-i
