@@ -10,7 +10,7 @@ ghost use Prim.Native.Nat.{_%_, _*_, _+_, _<_, _≤_};
 ghost use mathlib.Core.Bool.{true};
 ghost use lib.ListN.{length};
 ghost use Rattle.model.specs.Records.{byte, decode, encode, records, word};
-ghost use Rattle.itinerary.specs.Written.{withRecord};
+ghost use Rattle.reading.specs.Written.{withRecord};
 ghost use Rattle.model.specs.Refusals.{pass};
 ghost use Rattle.model.specs.Validity.{validity};
 ghost use Rattle.model.specs.Analysis.{free};
@@ -42,7 +42,7 @@ fn ready(it: &[u8], c: Rec) -> bool
     requires { ⌜ length (now it) % 8 ≡ 0 ⌝ }
     ensures { λ b. ⌜ b ≡ ready (capabilityOf (c .kind)) (records (now (it .entry))) (c .parent) ⌝ }
 {
-    let a = itinerary::record_at(it, c.parent);
+    let a = reading::record_at(it, c.parent);
     let held = ((c.kind != 2) & (c.kind != 3)) | (a.kind == 1);
     held & itinerary::ambients(it, c.parent, it.len() / 8 + 1)
 }
@@ -104,15 +104,15 @@ fn decide(it: &[u8], actor: u16, partner: u16) -> Decision
     requires { ⌜ length (now it) % 8 ≡ 0 ⌝ }
     ensures { λ d. ⌜ d ≡ decisionBy (outcome free (records (now (it .entry))) actor partner) (records (now (it .entry))) actor partner ⌝ }
 {
-    let c = itinerary::record_at(it, actor);
+    let c = reading::record_at(it, actor);
     if (c.kind < 2) | (4 < c.kind) {
         return Decision::Refused(10);
     }
     if !ready(it, c) {
         return Decision::Refused(11);
     }
-    let a = itinerary::record_at(it, c.parent);
-    let p = itinerary::record_at(it, partner);
+    let a = reading::record_at(it, c.parent);
+    let p = reading::record_at(it, partner);
     if !fits(c, a, p, partner) {
         return Decision::Refused(12);
     }
@@ -178,12 +178,12 @@ fn remake(it: &mut [u8], m: Move, i: u16)
     requires { ⌜ (1 ≤ i) × (8 * i ≤ length (now it)) × (withRecord (now it) i (decode (now it) i) ≡ now it) ⌝ }
     ensures { λ _. ⌜ now (it .exit) ≡ withRecord (now (it .entry)) i (remade m i (decode (now (it .entry)) i)) ⌝ }
 {
-    let p = itinerary::parent_of(it, i);
+    let p = reading::parent_of(it, i);
     if !touched(m, i, p) {
         return;
     }
-    let r = itinerary::record_at(it, i);
-    itinerary::put_record(it, i, remade(m, i, r));
+    let r = reading::record_at(it, i);
+    reading::put_record(it, i, remade(m, i, r));
 }
 
 // The move, in one pass over the records in place; inner.
@@ -244,7 +244,7 @@ fn word_at(script: &[u8], j: usize) -> u16
     requires { ⌜ j + 1 < length (now script) ⌝ }
     ensures { λ r. ⌜ r ≡ word (byte (now (script .entry)) j) (byte (now (script .entry)) (j + 1)) ⌝ }
 {
-    itinerary::word(script[j], script[j + 1])
+    reading::word(script[j], script[j + 1])
 }
 
 // One for a test that holds.
@@ -291,7 +291,7 @@ fn run_steps(it: &mut [u8], script: &[u8], answers: &mut [u8]) -> Counts
     while k < n {
         let actor = word_at(script, 4 * k);
         let partner = word_at(script, 4 * k + 2);
-        let kind = itinerary::byte_of(it, actor, 0);
+        let kind = reading::byte_of(it, actor, 0);
         let number = act(it, actor, partner);
         answers[k] = number;
         c = counted(c, kind, number);

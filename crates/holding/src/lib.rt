@@ -63,7 +63,7 @@ fn nests_hold(it: &[u8], table: &[u8], labels: &[u8]) -> bool
     let n = (it.len() / 8) as u16;
     let mut i: u16 = 0;
     while i < n {
-        let r = itinerary::record_at(it, i + 1);
+        let r = reading::record_at(it, i + 1);
         if 1 <= r.kind {
             if !stands(table, labels[r.parent as usize], r) {
                 return false;

@@ -7,13 +7,13 @@ use lib.Seq.{getD-set-other, getD-set-same}
 use mathlib.Core.Bool.{Bool, _&&_, false, not, true, true≢false}
 use mathlib.Core.List.{List, [], _∷_}
 use mathlib.Core.Logic.{_≢_}
-use mathlib.Core.Path.{_∙_, _≡_, ap, ap₂, refl, sym}
+use mathlib.Core.Path.{_∙_, _≡_, ap, refl, sym}
 use native.Mathlib.Decide.{decLe, ℕ-discrete}
 use native.Mathlib.Nat.{zero-lt-suc}
 use native.Mathlib.Omega.{arith}
 use Rattle.model.specs.Calls.{validateAnswer}
 use Rattle.model.specs.Climbing.{View, reaches, reaching, standing, view, viewFrom}
-use Rattle.model.specs.Laws.Bytes.{rec-path, at-whole, length-records, passed, size-le, size-whole, sound-record}
+use Rattle.model.specs.Laws.Bytes.{at-whole, length-records, passed, size-le, size-whole, sound-record}
 use Rattle.model.specs.Laws.Checks.{answer-done, bool-iff, each-pass, need-make}
 use Rattle.model.specs.Laws.Containers.{ambient-and, not-ambient-and}
 use Rattle.model.specs.Laws.Finite.{replicated}
@@ -22,9 +22,10 @@ use Rattle.model.specs.Laws.Updates.{at-over, at-root}
 use Rattle.model.specs.Laws.Views.{depth-reaches, from-lost, from-on, from-top, reaches-depth}
 use Rattle.model.specs.Laws.WellFormed.{and-left}
 use Rattle.model.specs.Numbers.{readingBy, readingOf, refusal, validatedAs}
-use Rattle.model.specs.Records.{at, byte, byteOf, count, decode, isAmbient, parentOf, records, word}
+use Rattle.model.specs.Records.{at, byte, byteOf, count, decode, isAmbient, parentOf, records}
 use Rattle.model.specs.Refusals.{Check, andThen, answer, content, done, eachOf, need, pass, refuse, refused}
 use Rattle.model.specs.Validity.{climbCheck, labelRight, nameRight, parentRight, recordCheck, sizeRight, spareRight, validity}
+use Rattle.reading.specs.Laws.{byte-of}
 use Rattle.model.specs.declared.Reading.the-variants.{Record, Refused}
 use Rattle.model.specs.declared.Rec.{Rec}
 use Rattle.model.specs.declared.Refusal.{Refusal}
@@ -37,28 +38,11 @@ unfolding parentRight count
 parent-right s zero b h e = absurd (h refl)
 parent-right s (suc p) b h e = rw e
 
-pub byte-of : (s : List ℕ) (i k : ℕ) → i ≢ 0 → byteOf s i k ≡ byte s (8 * (i - 1) + k)
-unfolding byteOf
-byte-of s zero k h = absurd (h refl)
-byte-of s (suc i) k h = let e : i ≡ suc i - 1 = omega arith in ap (λ j. byte s (8 * j + k)) e
-
 -- the spare bytes of a record, read directly
 pub spare-direct : (s : List ℕ) (i : ℕ) → i ≢ 0 →
     (eqb (byte s (8 * (i - 1) + 3)) 0 && (eqb (byte s (8 * (i - 1) + 6)) 0 && eqb (byte s (8 * (i - 1) + 7)) 0)) ≡ spareRight s i
 unfolding spareRight
 spare-direct s i h = rw (byte-of s i 3 h, byte-of s i 6 h, byte-of s i 7 h)
-
--- the parent of a record, and a whole record, read directly
-pub parent-direct : (s : List ℕ) (i p : ℕ) → i ≢ 0 → p ≡ word (byte s (8 * (i - 1) + 4)) (byte s (8 * (i - 1) + 5)) → p ≡ decode s i .parent
-unfolding decode
-parent-direct s i p h e = e ∙ sym (ap₂ word (byte-of s i 4 h) (byte-of s i 5 h))
-
-pub record-direct : (s : List ℕ) (i p : ℕ) → i ≢ 0 → p ≡ word (byte s (8 * (i - 1) + 4)) (byte s (8 * (i - 1) + 5)) →
-    record { kind = byte s (8 * (i - 1)); label = byte s (8 * (i - 1) + 1); name = byte s (8 * (i - 1) + 2); parent = p } ≡ decode s i
-unfolding decode
-record-direct s i p h e =
-    let z : 8 * (i - 1) ≡ 8 * (i - 1) + 0 = omega arith in
-    rec-path _ _ (ap (byte s) z ∙ sym (byte-of s i 0 h)) (sym (byte-of s i 1 h)) (sym (byte-of s i 2 h)) (parent-direct s i p h e)
 
 -- reading record i: r is the record, and the tests before decided otherwise
 module _ (s : List ℕ) (i : ℕ) (r : Rec) (e : r ≡ decode s i) where

@@ -2,4 +2,3 @@
 pub mod Known
 pub mod Laws
 pub mod Nearest
-pub mod Written

@@ -1,4 +1,4 @@
-// Reading and validating an itinerary, and climbing in it.
+// Validating an itinerary, and climbing in it.
 use model::Contained;
 use model::Reading;
 use model::Rec;
@@ -13,80 +13,14 @@ ghost use Rattle.model.specs.Refusals.{answer, eachOf, pass};
 ghost use Rattle.model.specs.Validity.{climbCheck, goneRight, labelRight, nameRight, parentRight, recordCheck, spareRight, validity};
 ghost use Rattle.model.specs.Calls.{containerAnswer, validateAnswer};
 ghost use Rattle.model.specs.Numbers.{containedAs, readingOf, validatedAs};
-ghost use Rattle.itinerary.specs.Written.{withRecord};
 ghost use Rattle.itinerary.specs.Known.{Climbable, Enough, Known, Labelable, Labelled, Near, Nearests, Parented, formRight, readingNumber, upFrom};
-
-// Byte k of record i, 0 where there is none; inner.
-pub fn byte_of(it: &[u8], i: u16, k: usize) -> u8
-    requires { ⌜ k < 8 ⌝ }
-    ensures { λ r. ⌜ r ≡ byteOf (now (it .entry)) i k ⌝ }
-{
-    if i == 0 {
-        return 0;
-    }
-    let at = 8 * ((i as usize) - 1) + k;
-    if at < it.len() { it[at] } else { 0 }
-}
-
-// A number of two bytes, the low one first.
-pub fn word(low: u8, high: u8) -> u16
-    ensures { λ r. ⌜ r ≡ word low high ⌝ }
-{
-    (low as u16) + 256 * (high as u16)
-}
-
-// Record i byte by byte, for the environment and past the last whole record.
-fn edge_at(it: &[u8], i: u16) -> Rec
-    ensures { λ r. ⌜ r ≡ decode (now (it .entry)) i ⌝ }
-{
-    Rec {
-        kind: byte_of(it, i, 0),
-        label: byte_of(it, i, 1),
-        name: byte_of(it, i, 2),
-        parent: word(byte_of(it, i, 4), byte_of(it, i, 5)),
-    }
-}
-
-// Record i, gone for the environment and over the count. One test of the length serves a whole record.
-pub fn record_at(it: &[u8], i: u16) -> Rec
-    ensures { λ r. ⌜ r ≡ decode (now (it .entry)) i ⌝ }
-{
-    if i == 0 {
-        return edge_at(it, i);
-    }
-    let at = 8 * ((i as usize) - 1);
-    if it.len() < at + 8 {
-        return edge_at(it, i);
-    }
-    Rec {
-        kind: it[at],
-        label: it[at + 1],
-        name: it[at + 2],
-        parent: word(it[at + 4], it[at + 5]),
-    }
-}
-
-// The parent's number of a whole record; inner.
-pub fn parent_of(it: &[u8], i: u16) -> u16
-    requires { ⌜ (1 ≤ i) × (8 * i ≤ length (now it)) ⌝ }
-    ensures { λ r. ⌜ r ≡ decode (now (it .entry)) i .parent ⌝ }
-{
-    let at = 8 * ((i as usize) - 1);
-    word(it[at + 4], it[at + 5])
-}
-
-// Whether a record is an ambient or a capability.
-pub fn nested(r: Rec) -> bool
-    ensures { λ b. ⌜ b ≡ nested r ⌝ }
-{
-    (1 <= r.kind) & (r.kind <= 4)
-}
 
 // Whether the spare bytes of record i are zero, byte by byte, as `edge_at`.
 fn spare_edge(it: &[u8], i: u16) -> bool
     ensures { λ b. ⌜ b ≡ spareRight (now (it .entry)) i ⌝ }
 {
-    (byte_of(it, i, 3) == 0) & ((byte_of(it, i, 6) == 0) & (byte_of(it, i, 7) == 0))
+    (reading::byte_of(it, i, 3) == 0)
+        & ((reading::byte_of(it, i, 6) == 0) & (reading::byte_of(it, i, 7) == 0))
 }
 
 // Whether the spare bytes of record i are zero.
@@ -117,7 +51,7 @@ fn gone_right(r: Rec) -> bool
 fn label_right(r: Rec) -> bool
     ensures { λ b. ⌜ b ≡ labelRight r ⌝ }
 {
-    if !nested(r) {
+    if !reading::nested(r) {
         return r.label == 0;
     }
     if r.kind == 1 {
@@ -130,7 +64,7 @@ fn label_right(r: Rec) -> bool
 fn name_right(r: Rec) -> bool
     ensures { λ b. ⌜ b ≡ nameRight r ⌝ }
 {
-    if nested(r) {
+    if reading::nested(r) {
         return r.name <= 63;
     }
     r.name == 0
@@ -143,7 +77,7 @@ fn parent_right(it: &[u8], p: u16) -> bool
     if p == 0 {
         return true;
     }
-    ((p as usize) <= it.len() / 8) & (byte_of(it, p, 0) != 0)
+    ((p as usize) <= it.len() / 8) & (reading::byte_of(it, p, 0) != 0)
 }
 
 // Whether record i has none of the faults of refusal 2.
@@ -157,7 +91,7 @@ fn form_right(it: &[u8], i: u16, r: Rec) -> bool
 pub fn read_record(it: &[u8], i: u16) -> Reading
     ensures { λ r. ⌜ r ≡ readingOf (now (it .entry)) i ⌝ }
 {
-    let r = record_at(it, i);
+    let r = reading::record_at(it, i);
     if !form_right(it, i, r) {
         return Reading::Refused(2);
     }
@@ -209,7 +143,7 @@ fn climb(it: &[u8], known: &mut [u8], i: u16, left: usize) -> bool
     requires { ⌜ (Climbable (now it) (now known)) × (Enough (now it) left i) × (1 ≤ i) ⌝ }
     ensures { λ r. ⌜ (r ≡ reaches (records (now (it .entry))) i) × (Known (now (it .entry)) (now (known .exit))) ⌝ }
 {
-    let parent = parent_of(it, i);
+    let parent = reading::parent_of(it, i);
     if known[parent as usize] == 1 {
         known[i as usize] = 1;
         return true;
@@ -286,7 +220,7 @@ fn nearest(it: &[u8], labels: &mut [u8], i: u16, left: usize) -> u8
     requires { ⌜ (Labelable (now it) (now labels)) × (Near (now it) left i) × (1 ≤ i) ⌝ }
     ensures { λ r. ⌜ (r ≡ nearest (records (now (it .entry))) i) × (Labelled (now (it .entry)) (now (labels .entry)) i (now (labels .exit))) ⌝ }
 {
-    let r = record_at(it, i);
+    let r = reading::record_at(it, i);
     let here = labelled(r, labels[r.parent as usize]);
     if here < 64 {
         labels[i as usize] = here;
@@ -308,7 +242,7 @@ pub fn nearest_labels(it: &[u8], labels: &mut [u8])
     let n = (it.len() / 8) as u16;
     let mut i: u16 = 0;
     while i < n {
-        let r = record_at(it, i + 1);
+        let r = reading::record_at(it, i + 1);
         let here = labelled(r, labels[r.parent as usize]);
         if here < 64 {
             labels[(i as usize) + 1] = here;
@@ -323,7 +257,7 @@ pub fn nearest_labels(it: &[u8], labels: &mut [u8])
 fn up(it: &[u8], i: u16) -> u16
     ensures { λ r. ⌜ r ≡ upFrom (now (it .entry)) i ⌝ }
 {
-    let r = record_at(it, i);
+    let r = reading::record_at(it, i);
     if r.kind == 1 { r.parent } else { i }
 }
 
@@ -332,7 +266,7 @@ pub fn ambients(it: &[u8], i: u16, left: usize) -> bool
     requires { ⌜ length (now it) % 8 ≡ 0 ⌝ }
     ensures { λ r. ⌜ r ≡ viewFrom standing (records (now (it .entry))) left i ⌝ }
 {
-    let r = record_at(it, i);
+    let r = reading::record_at(it, i);
     if r.kind != 1 {
         return i == 0;
     }
@@ -350,7 +284,7 @@ fn container_by(it: &[u8], labels: &mut [u8], i: u16) -> u8
     requires { ⌜ Labelable (now it) (now labels) ⌝ }
     ensures { λ r. ⌜ r ≡ container (records (now (it .entry))) i ⌝ }
 {
-    let r = record_at(it, i);
+    let r = reading::record_at(it, i);
     if r.parent == 0 {
         return 0;
     }
@@ -375,20 +309,4 @@ pub fn container(it: &[u8], number: u16) -> Contained
         Validated::Refused(r) => Contained::Refused(r),
         Validated::Done(_) => Contained::Done(container_of(it, number)),
     }
-}
-
-// Writes record i; inner.
-pub fn put_record(it: &mut [u8], i: u16, r: Rec)
-    requires { ⌜ (1 ≤ i) × (8 * i ≤ length (now it)) ⌝ }
-    ensures { λ _. ⌜ now (it .exit) ≡ withRecord (now (it .entry)) i r ⌝ }
-{
-    let at = 8 * ((i as usize) - 1);
-    it[at] = r.kind;
-    it[at + 1] = r.label;
-    it[at + 2] = r.name;
-    it[at + 3] = 0;
-    it[at + 4] = (r.parent % 256) as u8;
-    it[at + 5] = (r.parent / 256) as u8;
-    it[at + 6] = 0;
-    it[at + 7] = 0;
 }

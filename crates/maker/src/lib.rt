@@ -42,7 +42,7 @@ fn fill_names(names: &mut [u8], it: &[u8])
     let n = (it.len() / 8) as u16;
     let mut i: u16 = 0;
     while i < n {
-        let r = itinerary::record_at(it, i + 1);
+        let r = reading::record_at(it, i + 1);
         if r.kind == 1 {
             set_bit(names, 64 * (r.label as usize) + (r.name as usize));
         }
@@ -75,7 +75,7 @@ fn nest(table: &mut [u8], it: &[u8], labels: &[u8])
     let n = (it.len() / 8) as u16;
     let mut i: u16 = 0;
     while i < n {
-        let r = itinerary::record_at(it, i + 1);
+        let r = reading::record_at(it, i + 1);
         if 1 <= r.kind {
             let container = labels[r.parent as usize];
             set_bit(table, 128 * (container as usize) + (r.label as usize));

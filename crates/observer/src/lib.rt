@@ -42,7 +42,7 @@ fn hidden(it: &[u8], table: &[u8], marks: &mut [u8], i: u16, left: usize) -> boo
     ensures { λ b. ⌜ (b ≡ hidden (records (now (it .entry))) (suspects (now (table .entry))) i)
         × (Marked (now (it .entry)) (now (table .entry)) (now (marks .exit))) ⌝ }
 {
-    let r = itinerary::record_at(it, i);
+    let r = reading::record_at(it, i);
     let here = mark_of(suspect(table, r), marks[r.parent as usize]);
     if here != 0 {
         marks[i as usize] = here;
@@ -65,7 +65,7 @@ fn settled(it: &[u8], table: &[u8], marks: &mut [u8], i: u16, left: usize) -> bo
     ensures { λ b. ⌜ (b ≡ hidden (records (now (it .entry))) (suspects (now (table .entry))) i)
         × (Marked (now (it .entry)) (now (table .entry)) (now (marks .exit))) ⌝ }
 {
-    let r = itinerary::record_at(it, i);
+    let r = reading::record_at(it, i);
     let here = mark_of(suspect(table, r), marks[r.parent as usize]);
     if here != 0 {
         marks[i as usize] = here;
@@ -90,7 +90,7 @@ fn hide(it: &[u8], table: &[u8], marks: &mut [u8], sheet: &mut [u8])
     let mut i: u16 = 0;
     while i < n {
         if settled(it, table, marks, i + 1, n as usize) {
-            itinerary::put_record(sheet, i + 1, gone);
+            reading::put_record(sheet, i + 1, gone);
         }
         i += 1;
     }

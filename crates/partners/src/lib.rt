@@ -45,7 +45,7 @@ fn aim_all(partners: &mut [u64], bearers: &[u64], it: &[u8])
     let n = (it.len() / 8) as u16;
     let mut i: u16 = 0;
     while i < n {
-        let r = itinerary::record_at(it, i + 1);
+        let r = reading::record_at(it, i + 1);
         aim(partners, bearers, r);
         i += 1;
     }

@@ -28,7 +28,7 @@ fn not_gone(it: &[u8]) -> u16
     let mut sum: u16 = 0;
     let mut i: u16 = 0;
     while i < n {
-        sum += present(itinerary::byte_of(it, i + 1, 0));
+        sum += present(reading::byte_of(it, i + 1, 0));
         i += 1;
     }
     sum

@@ -5,7 +5,7 @@ use lib.ListN.{length}
 use mathlib.Core.Bool.{Bool, _&&_, false, true}
 use mathlib.Core.List.{List, [], _++_}
 use mathlib.Core.Path.{_≡_}
-use Rattle.itinerary.specs.Written.{written}
+use Rattle.reading.specs.Written.{written}
 use Rattle.model.specs.Listing.{digitsIn, field}
 use Rattle.model.specs.Records.{at, records}
 use Rattle.model.specs.declared.Rec.{Rec}

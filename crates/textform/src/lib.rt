@@ -8,7 +8,7 @@ ghost use Prim.Native.Nat.{_+_, _*_, _/_, _≤_, min};
 ghost use lib.Dec.{eqb};
 ghost use lib.ListN.{getD, length, replicate, set};
 ghost use mathlib.Core.List.{[], _∷_};
-ghost use Rattle.itinerary.specs.Written.{withRecord};
+ghost use Rattle.reading.specs.Written.{withRecord};
 ghost use Rattle.model.specs.Listing.{digitsIn};
 ghost use Rattle.model.specs.Records.{byte, records};
 ghost use Rattle.model.specs.Validity.{labelIn};
@@ -258,7 +258,7 @@ fn place(it: &mut [u8], above: &mut [u16], k: u16, line: Line)
         name: line.name,
         parent: above[depth],
     };
-    itinerary::put_record(it, k + 1, r);
+    reading::put_record(it, k + 1, r);
     above[depth + 1] = k + 1;
 }
 
@@ -459,7 +459,7 @@ fn child_after(it: &[u8], p: u16, after: u16) -> u16
     let n = (it.len() / 8) as u16;
     let mut j = after;
     while j < n {
-        let r = itinerary::record_at(it, j + 1);
+        let r = reading::record_at(it, j + 1);
         if (r.kind != 0) & (r.parent == p) {
             return j + 1;
         }
@@ -484,7 +484,7 @@ fn next(it: &[u8], p: u16, d: usize) -> Visit
                 depth: e,
             };
         }
-        let r = itinerary::record_at(it, q);
+        let r = reading::record_at(it, q);
         after = q;
         q = r.parent;
         e -= 1;
@@ -503,8 +503,8 @@ fn put_visit(text: &mut [u8], at: usize, it: &[u8], sheet: &[u8], listed: bool, 
         (now (text .exit)) r ⌝ }
 {
     let number = v.number;
-    let r = itinerary::record_at(it, number);
-    let s = itinerary::record_at(sheet, number);
+    let r = reading::record_at(it, number);
+    let s = reading::record_at(sheet, number);
     let line = Line {
         depth: v.depth,
         kind: r.kind,

@@ -1,7 +1,7 @@
 -- `calculus::apply` meets its contract. The loop's invariant: the records passed are as after the move, and the others as before.
 use Rattle.model.specs.Records.{count, records, update}
 use Rattle.itinerary.specs.Laws.{valid-few, valid-whole}
-use Rattle.itinerary.specs.Written.{pass-end, pass-length, pass-next, pass-read, pass-whole, written, written-none}
+use Rattle.reading.specs.Written.{pass-end, pass-length, pass-next, pass-read, pass-whole, written, written-none}
 use Rattle.calculus.specs.Moves.{applied, remade}
 use native.Mathlib.Omega.{arith}
 use mathlib.Core.Path.{_∙_, _≡_, ap, refl, sym}

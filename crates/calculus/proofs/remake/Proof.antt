@@ -1,7 +1,7 @@
 -- `calculus::remake` meets its contract: a record that the move leaves is written as it stands.
 use Rattle.calculus.specs.Moves.{touchedBy, remade}
 use Rattle.calculus.specs.Laws.{untouched}
-use Rattle.itinerary.specs.Written.{withRecord}
+use Rattle.reading.specs.Written.{withRecord}
 use borrow.Author.Tests.{not-true}
 use native.Mathlib.Omega.{arith}
 use mathlib.Core.Path.{_∙_, _≡_, ap, refl, sym}
@@ -12,9 +12,9 @@ use Rattle.calculus.proofs.remake.Reads as reads
 use Rattle.calculus.proofs.remake.Lts as lts
 use Rattle.calculus.proofs.remade.Reads as remade-reads
 use Rattle.calculus.proofs.touched.Reads as touched-reads
-use Rattle.itinerary.proofs.parent_of.Reads as parent-of-reads
-use Rattle.itinerary.proofs.put_record.Reads as put-record-reads
-use Rattle.itinerary.proofs.record_at.Reads as record-at-reads
+use Rattle.reading.proofs.parent_of.Reads as parent-of-reads
+use Rattle.reading.proofs.put_record.Reads as put-record-reads
+use Rattle.reading.proofs.record_at.Reads as record-at-reads
 
 -- src/lib.rt:181:9
 parent-of-requires : tie.Need-parent-of-requires

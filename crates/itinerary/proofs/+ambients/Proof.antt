@@ -10,7 +10,7 @@ use Rattle.model.specs.Climbing.{standing}
 use Rattle.itinerary.proofs.ambients.Reads as ambients
 use Rattle.itinerary.proofs.ambients.Kinds as ambients-kinds
 use Rattle.itinerary.proofs.+ambients.Lts-ambients as ambients-lts
-use Rattle.itinerary.proofs.record_at.Reads as record-at-reads
+use Rattle.reading.proofs.record_at.Reads as record-at-reads
 use Rattle.itinerary.proofs.up.Reads as up-reads
 use Rattle.itinerary.proofs.+ambients.{statement}
 use Rattle.itinerary.proofs.+ambients.Tie.{close}

@@ -10,7 +10,7 @@ use Rattle.itinerary.specs.Laws.{enough-above, known-more, parent-inside
 use Rattle.itinerary.proofs.climb.Reads as climb
 use Rattle.itinerary.proofs.climb.Kinds as climb-kinds
 use Rattle.itinerary.proofs.+climb.Lts-climb as climb-lts
-use Rattle.itinerary.proofs.parent_of.Reads as parent-of-reads
+use Rattle.reading.proofs.parent_of.Reads as parent-of-reads
 use Rattle.itinerary.proofs.+climb.{statement}
 use Rattle.itinerary.proofs.+climb.Tie.{close}
 

@@ -11,7 +11,7 @@ use Rattle.itinerary.proofs.nearest.Reads as nearest
 use Rattle.itinerary.proofs.nearest.Kinds as nearest-kinds
 use Rattle.itinerary.proofs.+nearest.Lts-nearest as nearest-lts
 use Rattle.itinerary.proofs.labelled.Reads as labelled-reads
-use Rattle.itinerary.proofs.record_at.Reads as record-at-reads
+use Rattle.reading.proofs.record_at.Reads as record-at-reads
 use Rattle.itinerary.proofs.+nearest.{statement}
 use Rattle.itinerary.proofs.+nearest.Tie.{close}
 

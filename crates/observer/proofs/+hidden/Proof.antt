@@ -11,7 +11,7 @@ use Rattle.observer.specs.Laws.{hidden-above, mark-decided, mark-more, m
 use Rattle.observer.proofs.hidden.Reads as hidden
 use Rattle.observer.proofs.hidden.Kinds as hidden-kinds
 use Rattle.observer.proofs.+hidden.Lts-hidden as hidden-lts
-use Rattle.itinerary.proofs.record_at.Reads as record-at-reads
+use Rattle.reading.proofs.record_at.Reads as record-at-reads
 use Rattle.observer.proofs.mark_of.Reads as mark-of-reads
 use Rattle.observer.proofs.suspect.Reads as suspect-reads
 use Rattle.observer.proofs.+hidden.{statement}

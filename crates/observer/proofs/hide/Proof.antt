@@ -7,7 +7,7 @@ use mathlib.Core.Path.{_∙_, _≡_, ap, refl, sym}
 use native.Mathlib.Omega.{arith}
 use Rattle.itinerary.specs.Laws.{valid-few, valid-whole}
 use Rattle.itinerary.specs.Nearest.{near-all}
-use Rattle.itinerary.specs.Written.{pass-end, pass-length, pass-next, pass-read, pass-whole, written, written-none}
+use Rattle.reading.specs.Written.{pass-end, pass-length, pass-next, pass-read, pass-whole, written, written-none}
 use Rattle.model.specs.Observer.{onSheet, sheet, sheetOf}
 use Rattle.model.specs.Records.{count, records, update}
 use Rattle.model.specs.Tables.{suspects}

@@ -8,7 +8,7 @@ use Rattle.screen.proofs.not_gone.Statement.{statement}
 use Rattle.screen.proofs.not_gone.Tie as tie
 use Rattle.screen.proofs.not_gone.Reads as reads
 use Rattle.screen.proofs.not_gone.Lts as lts
-use Rattle.itinerary.proofs.byte_of.Reads as byte-of-reads
+use Rattle.reading.proofs.byte_of.Reads as byte-of-reads
 use Rattle.screen.proofs.present.Reads as present-reads
 
 abbrev Inv-loop : tie.InvT-loop

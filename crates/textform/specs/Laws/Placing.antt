@@ -7,7 +7,7 @@ use mathlib.Core.Logic.{_≢_}
 use mathlib.Core.Option.{Option, none, some}
 use mathlib.Core.Path.{_∙_, _≡_, ap, refl, sym}
 use native.Mathlib.Omega.{arith}
-use Rattle.itinerary.specs.Written.{withRecord, written, written-length, written-next, written-none}
+use Rattle.reading.specs.Written.{withRecord, written, written-length, written-next, written-none}
 use Rattle.model.specs.Laws.Bytes.{length-encode}
 use Rattle.model.specs.Records.{at, encode, gone}
 use Rattle.textform.specs.Laws.Lines.{Got, line-good, scan-bad, scan-good, scan-nested}

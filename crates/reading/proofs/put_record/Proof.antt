@@ -1,10 +1,10 @@
--- `itinerary::put_record` meets its contract.
+-- `reading::put_record` meets its contract.
 use borrow.Author.Needs.{needs}
 use lib.ListN.{length-set}
 use native.Mathlib.Omega.{arith}
-use Rattle.itinerary.specs.Written.{stores}
-use Rattle.itinerary.proofs.put_record.Statement.{statement}
-use Rattle.itinerary.proofs.put_record.Tie as tie
+use Rattle.reading.specs.Written.{stores}
+use Rattle.reading.proofs.put_record.Statement.{statement}
+use Rattle.reading.proofs.put_record.Tie as tie
 
 sub-at : tie.Need-sub-at
 sub-at c = search needs

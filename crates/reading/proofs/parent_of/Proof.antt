@@ -1,12 +1,12 @@
--- `itinerary::parent_of` meets its contract.
+-- `reading::parent_of` meets its contract.
 use native.Mathlib.Omega.{arith}
-use Rattle.itinerary.specs.Laws.{parent-direct}
+use Rattle.reading.specs.Laws.{parent-direct}
 use borrow.Author.Needs.{needs}
-use Rattle.itinerary.proofs.parent_of.Statement.{statement}
-use Rattle.itinerary.proofs.parent_of.Tie as tie
-use Rattle.itinerary.proofs.parent_of.Reads as reads
-use Rattle.itinerary.proofs.parent_of.Lts as lts
-use Rattle.itinerary.proofs.word.Reads as word-reads
+use Rattle.reading.proofs.parent_of.Statement.{statement}
+use Rattle.reading.proofs.parent_of.Tie as tie
+use Rattle.reading.proofs.parent_of.Reads as reads
+use Rattle.reading.proofs.parent_of.Lts as lts
+use Rattle.reading.proofs.word.Reads as word-reads
 
 -- src/lib.rt:74:19
 sub-at : tie.Need-sub-at

@@ -1,11 +1,11 @@
--- `itinerary::byte_of` meets its contract.
+-- `reading::byte_of` meets its contract.
 use borrow.Author.Needs.{needs}
 use lib.ListN.{List·getD-eq-default}
 use mathlib.Core.Path.{_∙_, sym}
-use Rattle.itinerary.specs.Laws.{byte-of}
+use Rattle.reading.specs.Laws.{byte-of}
 use Rattle.model.specs.Records.{byteOf}
-use Rattle.itinerary.proofs.byte_of.Statement.{statement}
-use Rattle.itinerary.proofs.byte_of.Tie as tie
+use Rattle.reading.proofs.byte_of.Statement.{statement}
+use Rattle.reading.proofs.byte_of.Tie as tie
 
 returns : tie.Need-returns
 unfolding byteOf

@@ -1,8 +1,8 @@
--- `itinerary::edge_at` meets its contract.
+-- `reading::edge_at` meets its contract.
 use borrow.Author.Needs.{needs}
 use Rattle.model.specs.Records.{decode}
-use Rattle.itinerary.proofs.edge_at.Statement.{statement}
-use Rattle.itinerary.proofs.edge_at.Tie as tie
+use Rattle.reading.proofs.edge_at.Statement.{statement}
+use Rattle.reading.proofs.edge_at.Tie as tie
 
 byte-of-requires : tie.Need-byte-of-requires
 byte-of-requires c κs = search needs

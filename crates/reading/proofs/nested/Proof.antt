@@ -1,8 +1,8 @@
--- `itinerary::nested` meets its contract.
+-- `reading::nested` meets its contract.
 use mathlib.Core.Path.{refl}
 use Rattle.model.specs.Records.{nested}
-use Rattle.itinerary.proofs.nested.Statement.{statement}
-use Rattle.itinerary.proofs.nested.Tie as tie
+use Rattle.reading.proofs.nested.Statement.{statement}
+use Rattle.reading.proofs.nested.Tie as tie
 
 returns : tie.Need-returns
 unfolding nested
