@@ -14,7 +14,7 @@ fn show_refusal(r: Refusal) {
 }
 
 fn list(it: &[u8], table: &[u8], text: &mut [u8]) {
-    match textform::list_text(it, table, text) {
+    match textwrite::list_text(it, table, text) {
         TextWritten::Refused(r) => show_refusal(r),
         TextWritten::Length(len) => files::first(text, len),
         TextWritten::NoRoom(_) => {}

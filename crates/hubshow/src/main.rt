@@ -12,7 +12,7 @@ fn show_refusal(r: Refusal) {
 }
 
 fn convert(it: &[u8], text: &mut [u8]) {
-    match textform::write_text(it, text) {
+    match textwrite::write_text(it, text) {
         TextWritten::Refused(r) => show_refusal(r),
         TextWritten::Length(len) => files::first(text, len),
         TextWritten::NoRoom(_) => {}

@@ -38,7 +38,7 @@ fn show_fault(line: u16, cause: u8) {
 }
 
 fn convert(text: &[u8], it: &mut [u8]) {
-    match textform::read_text(text, it) {
+    match textread::read_text(text, it) {
         TextRead::Records(k) => files::first(it, 8 * (k as usize)),
         TextRead::Fault { line, cause } => show_fault(line, cause),
     }

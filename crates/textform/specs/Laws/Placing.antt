@@ -2,7 +2,7 @@
 use Prim.Native.Nat.{_*_, _+_, _-_, _/_, _<_, _≤_, min, suc, zero, ℕ}
 use lib.ListN.{drop, drop-of-length-le, getD, length, length-drop, length-set, set, take}
 use lib.Seq.{drop-drop, getD-drop, take-all, take-at}
-use mathlib.Core.List.{List, [], _∷_}
+use mathlib.Core.List.{List, [], _++_, _∷_}
 use mathlib.Core.Logic.{_≢_}
 use mathlib.Core.Option.{Option, none, some}
 use mathlib.Core.Path.{_∙_, _≡_, ap, refl, sym}
@@ -12,8 +12,7 @@ use Rattle.model.specs.Laws.Bytes.{length-encode}
 use Rattle.model.specs.Records.{at, encode, gone}
 use Rattle.textform.specs.Laws.Lines.{Got, line-good, scan-bad, scan-good, scan-nested}
 use Rattle.textform.specs.Laws.Nesting.{length-placed, none-length}
-use Rattle.textform.specs.Laws.Putting.{splice-over}
-use Rattle.textform.specs.Lines.{splice}
+use Rattle.textform.specs.Lines.{over}
 use Rattle.textform.specs.Reading.{Scan, before, causeOf, lineRead, noneAbove, placed, placedFrom, readAfter, readAnswer, readBy, readInto, recordOf, roomIn, scan, scanAnswer, scanFrom}
 use Rattle.textform.specs.Inner.{scanned}
 use Rattle.textform.specs.declared.Line.{Line}
@@ -207,7 +206,10 @@ module _ (text it scratch : List ℕ) (room : ℕ) (got : TextRead) (m : room �
         let u : length (encode (placed (scan room text .lines))) ≡ 8 * n = length-encode _ ∙ omega (arith, length-all (scan room text .lines), whole .1) in
         rw (take-all (length (scan room text .lines)) (placed (scan room text .lines)) k) (take-at (encode (placed (scan room text .lines))) _ (8 * n) u)
 
-    pub read-records : (scratch′ it′ : List ℕ) → scratch′ ≡ scanned (scan room text) scratch → it′ ≡ splice 0 (take (8 * n) scratch′) it → (Records n ≡ readAnswer text it) × (it′ ≡ readAfter text it)
-    unfolding readAfter readInto
+    pub read-records : (scratch′ it′ : List ℕ) → scratch′ ≡ scanned (scan room text) scratch →
+        it′ ≡ take (length (take (8 * n) scratch′)) (take (8 * n) scratch′) ++ drop (length (take (8 * n) scratch′)) it → (Records n ≡ readAnswer text it) × (it′ ≡ readAfter text it)
+    unfolding readAfter readInto over
     read-records scratch′ it′ p q =
-        (sym e ∙ same-answer, q ∙ ap (λ x. splice 0 x it) (ap (take (8 * n)) p ∙ head) ∙ splice-over _ it ∙ rw (← same-room) (rw (whole .0)))
+        let w : take (8 * n) scratch′ ≡ encode (placed (scan room text .lines)) = ap (take (8 * n)) p ∙ head in
+        let b = encode (placed (scan room text .lines)) in
+        (sym e ∙ same-answer, q ∙ rw (w, take-all (length b) b (omega arith), ← same-room, whole .0))

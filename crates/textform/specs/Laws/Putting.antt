@@ -1,8 +1,8 @@
 -- Bytes put at a place.
-use Prim.Native.Nat.{_%_, _*_, _+_, _/_, _<_, _≤_, suc, zero, ℕ}
-use lib.ListN.{drop, getD, length, length-append, length-replicate, replicate, replicate-append-replicate, set, take, take-append-drop}
-use lib.Seq.{drop-append-add, drop-drop, length-take-le, paste, paste-suc, set-split, take-all, take-at}
-use mathlib.Core.List.{List, [], _++_, _∷_, append-assoc}
+use Prim.Native.Nat.{_%_, _*_, _+_, _-_, _/_, _<_, _≤_, suc, zero, ℕ}
+use lib.ListN.{drop, drop-of-length-le, length, length-append, length-drop, length-replicate, replicate, replicate-append-replicate, set, take, take-append-drop}
+use lib.Seq.{drop-append-add, drop-drop, length-take-le, set-split, take-all, take-at}
+use mathlib.Core.List.{List, [], _++_, _∷_, append-assoc, append-nil}
 use mathlib.Core.Logic.{_≢_}
 use mathlib.Core.Bool.{Bool, false, true}
 use mathlib.Core.Path.{_∙_, _≡_, ap, refl, sym}
@@ -17,19 +17,6 @@ use Rattle.textform.specs.Writing.{mark}
 use Rattle.textform.specs.declared.Line.{Line}
 
 module _ (t : List ℕ) (p : ℕ) (w : List ℕ) where
-  paste-splice : (i : ℕ) → i ≤ length w → paste t p w i ≡ splice p (take i w) t
-  unfolding splice
-  paste-splice i l = rw (length-take-le i w l) (append-assoc (take p t) (take i w) (drop (p + i) t))
-
-  -- a loop that puts byte after byte
-  pub put-next : (i : ℕ) (t′ : List ℕ) → p + length w ≤ length t → i < length w → t′ ≡ splice p (take i w) t → set t′ (p + i) (getD w i 0) ≡ splice p (take (i + 1) w) t
-  put-next i t′ h l e =
-      ap (λ x. set x (p + i) (getD w i 0)) (e ∙ sym (paste-splice i (omega arith)))
-      ∙ paste-suc t p w i 0 (omega arith) l ∙ ap (paste t p w) (sym (add-one i)) ∙ paste-splice (i + 1) (omega arith)
-
-  pub put-all : (i : ℕ) → length w ≤ i → splice p (take i w) t ≡ splice p w t
-  put-all i l = ap (λ x. splice p x t) (take-all i w l)
-
   -- bytes put after bytes that were put
   pub splice-splice : (v : List ℕ) (q : ℕ) → q ≡ p + length w → q + length v ≤ length t → splice q v (splice p w t) ≡ splice p (w ++ v) t
   unfolding splice
@@ -40,6 +27,15 @@ module _ (t : List ℕ) (p : ℕ) (w : List ℕ) where
       rw (sym (append-assoc (take p t) w (drop (p + length w) t)))
       (rw (take-at (take p t ++ w) (drop (p + length w) t) q a, b, drop-append-add (take p t ++ w) (drop (p + length w) t) (length v), drop-drop (length v) (p + length w) t, c)
       (simp append-assoc))
+
+-- the bytes w copied to the start of the part of t from p on
+pub put-copied : (t : List ℕ) (p : ℕ) (w : List ℕ) {n : ℕ} {u : List ℕ} → n ≡ length w → u ≡ take (length w) w ++ drop (length w) (take (length t - p) (drop p t)) →
+    Put t p w (take p t ++ (u ++ drop (length t - p) (drop p t))) (p + n)
+unfolding splice
+put-copied t p w {n} {u} e q =
+    let l : length (drop p t) ≤ length t - p = omega (arith, length-drop p t) in
+    let v : u ≡ w ++ drop (p + length w) t = q ∙ rw (take-all (length w) w (omega arith), take-all (length t - p) (drop p t) l, drop-drop (length w) p t) in
+    record { end = ap (λ k. p + k) e; bytes = rw (drop-of-length-le (drop p t) l) (ap (λ x. take p t ++ x) (append-nil u ∙ v)) }
 
 -- nothing put
 pub splice-nil : (p : ℕ) (t : List ℕ) → t ≡ splice p [] t

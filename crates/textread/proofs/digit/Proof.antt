@@ -1,0 +1,12 @@
+-- `textread::digit` meets its contract.
+use mathlib.Core.Path.{refl}
+use Rattle.textform.specs.Reading.{digit}
+use Rattle.textread.proofs.digit.Statement.{statement}
+use Rattle.textread.proofs.digit.Tie as tie
+
+returns : tie.Need-returns
+unfolding digit
+returns c = refl
+
+pub digit-spec : {M : Type 1} → statement M
+digit-spec = tie.close (tie.spec returns)

@@ -1,0 +1,74 @@
+-- `textread::named` meets its contract.
+use borrow.Author.Needs.{needs}
+use mathlib.Core.Path.{_∙_, ap, sym}
+use native.Mathlib.Omega.{arith}
+use Rattle.textform.specs.Laws.Scanning.{byte-inside, named-apart, named-large, named-none, named-on, part, part-part, width-inside}
+use Rattle.textform.specs.Reading.{ended, numeral}
+use Rattle.textread.proofs.named.Statement.{statement}
+use Rattle.textread.proofs.named.Tie as tie
+
+byte-at-requires : tie.Need-byte-at-requires
+byte-at-requires c κs = search needs
+
+returns : tie.Need-returns
+returns c = sym (named-apart _ _ _ _ (λ q. c .if1 .taken (c .before .byte-at .ensures ∙ q)))
+
+sub-rest : tie.Need-sub-rest
+sub-rest c = byte-inside (c .before .before .before .args .s .now) 0 (λ z. omega (arith, z, c .before .byte-at .ensures, c .if1 .left))
+
+part-rest-start : tie.Need-part-rest-start
+part-rest-start c = byte-inside (c .before .before .before .args .s .now) 0 (λ z. omega (arith, z, c .before .byte-at .ensures, c .if1 .left))
+
+part-rest-end : tie.Need-part-rest-end
+part-rest-end c = search needs
+
+numeral-requires : tie.Need-numeral-requires
+numeral-requires c κs = search needs
+
+returns-2 : tie.Need-returns-2
+returns-2 c = sym (named-none _ _ _ _ (sym (c .before .before .before .before .byte-at .ensures) ∙ c .before .before .before .if1 .left) (c .before .numeral .result) (c .before .numeral .ensures ∙ ap numeral (part 1 (c .before .before .before .before .before .before .args .s .now))) (c .if2 .taken))
+
+returns-3 : tie.Need-returns-3
+returns-3 c =
+    let numeral₁ = c .before .before .before .numeral in
+    sym (named-large _ _ _ _ (sym (c .before .before .before .before .before .before .byte-at .ensures) ∙ c .before .before .before .before .before .if1 .left) (numeral₁ .result) (numeral₁ .ensures ∙ ap numeral (part 1 (c .before .before .before .before .before .before .before .before .args .s .now))) (c .before .before .if2 .left) (c .if3 .taken))
+
+cast-t8 : tie.Need-cast-t8
+cast-t8 c = search needs
+
+sub-ended : tie.Need-sub-ended
+sub-ended c = width-inside _ _ (c .before .before .before .before .numeral .ensures)
+
+part-ended-start : tie.Need-part-ended-start
+part-ended-start c = width-inside _ _ (c .before .before .before .before .numeral .ensures)
+
+part-ended-end : tie.Need-part-ended-end
+part-ended-end c = search needs
+
+ended-requires : tie.Need-ended-requires
+ended-requires c κs = search needs
+
+returns-4 : tie.Need-returns-4
+returns-4 c =
+    let args = c .before .before .before .before .before .before .before .before .before .before .before .args in
+    let numeral₁ = c .before .before .before .before .before .before .numeral in
+    c .ended .ensures ∙ ap (ended _) (part-part (numeral₁ .result .width) 1 (args .s .now)) ∙ sym (named-on _ _ _ _ (sym (c .before .before .before .before .before .before .before .before .before .byte-at .ensures) ∙ c .before .before .before .before .before .before .before .before .if1 .left) (numeral₁ .result) (numeral₁ .ensures ∙ ap numeral (part 1 (args .s .now))) (c .before .before .before .before .before .if2 .left) (c .before .before .before .if3 .left))
+
+pub named-spec : {M : Type 1} → statement M
+named-spec =
+    tie.close
+    (tie.spec
+    byte-at-requires
+    returns
+    sub-rest
+    part-rest-start
+    part-rest-end
+    numeral-requires
+    returns-2
+    returns-3
+    cast-t8
+    sub-ended
+    part-ended-start
+    part-ended-end
+    ended-requires
+    returns-4)

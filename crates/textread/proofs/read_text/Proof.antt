@@ -1,0 +1,34 @@
+-- `textread::read_text` meets its contract.
+use Prim.Native.Nat.{ℕ}
+use borrow.Author.Needs.{needs}
+use lib.ListN.{length-replicate}
+use mathlib.Core.Path.{refl}
+use Rattle.textform.specs.Reading.{noneAbove}
+use Rattle.textread.proofs.read_text.Statement.{statement}
+use Rattle.textread.proofs.read_text.Tie as tie
+
+slice-aggregate-read-by : tie.Need-slice-aggregate-read-by
+slice-aggregate-read-by c = search needs
+
+slice-aggregate-read-by-2 : tie.Need-slice-aggregate-read-by-2
+slice-aggregate-read-by-2 c = search needs
+
+read-by-requires : tie.Need-read-by-requires
+unfolding noneAbove
+read-by-requires c κs = (length-replicate {0} {A = ℕ} 8192 0, refl)
+
+same-length : tie.Need-same-length
+same-length c = search needs
+
+returns : tie.Need-returns
+returns c = search needs
+
+pub read-text-spec : {M : Type 1} → statement M
+read-text-spec =
+    tie.close
+    (tie.spec
+    slice-aggregate-read-by
+    slice-aggregate-read-by-2
+    read-by-requires
+    same-length
+    returns)
