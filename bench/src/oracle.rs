@@ -1,6 +1,6 @@
 //! Compares the maker with the least model that clingo finds by rules.lp.
 
-use crate::figures::short;
+use crate::figures::{grouped, short};
 use crate::inputs;
 use birnsket::TABLE_LENGTH;
 use simulator::generate::policies;
@@ -84,11 +84,12 @@ fn compare_all(seed: u64, count: usize) -> io::Result<()> {
         compare(&relabel.itinerary(&drawn).bytes(), &policy)?;
     }
     println!("clingo and the maker give the same table for {count} random itineraries.\n");
-    println!("| least table of | library | clingo |\n|---|---:|---:|");
+    println!("| least table of | library | clingo | times as fast |\n|---|---:|---:|---:|");
     for (name, lent) in inputs::for_tables() {
         let (fast, slow) = compare(&lent.itinerary, &lent.policy)?;
-        let (fast, slow) = (short(fast.as_secs_f64() * 1e3), short(slow.as_secs_f64() * 1e3));
-        println!("| {name} | {fast} ms | {slow} ms |");
+        let (fast, slow) = (fast.as_secs_f64(), slow.as_secs_f64());
+        let times = grouped((slow / fast) as u64);
+        println!("| {name} | {} µs | {} ms | {times} |", short(fast * 1e6), short(slow * 1e3));
     }
     Ok(())
 }

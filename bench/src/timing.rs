@@ -9,8 +9,10 @@ use std::time::{Duration, Instant};
 /// Calls of one side before the other's.
 pub const TURN: usize = 8;
 const LEAST: usize = 24;
-const MOST: usize = 4000;
+const MOST: usize = 40_000;
 const TIME: Duration = Duration::from_millis(800);
+/// What is not counted at a row's start, while the processor comes to its speed.
+const WARMING: Duration = Duration::from_millis(100);
 
 /// Medians in nanoseconds.
 pub struct Row {
@@ -65,11 +67,16 @@ pub fn row<R: PartialEq + Debug>(
     let mut work = inputs[0].clone();
     let turn = || inputs.iter().cycle().take(TURN);
     let (mut first, mut second) = (Vec::new(), Vec::new());
-    let start = Instant::now();
-    while first.len() < LEAST || (first.len() < MOST && start.elapsed() < TIME) {
-        first.extend(turn().map(|fresh| once(fresh, &mut work, &library)));
-        second.extend(turn().map(|fresh| once(fresh, &mut work, &plain)));
-    }
+    let mut turns = |time: Duration| {
+        (first.clear(), second.clear());
+        let start = Instant::now();
+        while first.len() < LEAST || (first.len() < MOST && start.elapsed() < time) {
+            first.extend(turn().map(|fresh| once(fresh, &mut work, &library)));
+            second.extend(turn().map(|fresh| once(fresh, &mut work, &plain)));
+        }
+    };
+    turns(WARMING);
+    turns(TIME);
     let overhead = overhead();
     Row { name, library: median(first) - overhead, plain: median(second) - overhead }
 }

@@ -16,9 +16,9 @@ use Rattle.model.specs.Laws.WellFormed.{and-right}
 use Rattle.model.specs.Listing.{digitsIn}
 use Rattle.model.specs.Records.{byte, encode, records}
 use Rattle.model.specs.Validity.{labelIn}
-use Rattle.textform.specs.Laws.Lines.{demand-good, digits-1, digits-2, digits-3, ended-good, line-parts, named-good, numeral-0, numeral-1, numeral-2, numeral-3, scan-bad, scan-good, scan-nested, tailBytes, worded-good}
+use Rattle.textform.specs.Laws.Lines.{demand-good, digits-1, digits-2, digits-3, ended-good, line-parts, named-good, scan-bad, scan-good, scan-nested, tailBytes, worded-good}
 use Rattle.textform.specs.Laws.Nesting.{walk-placed}
-use Rattle.textform.specs.Laws.Scanning.{digit-inside, digit-low, numeral-none}
+use Rattle.textform.specs.Laws.Scanning.{digit-inside, digit-low, numeral-cases}
 use Rattle.textform.specs.Lines.{ambientWord, inWord, kindWord, lineBytes, openWord, outWord, render}
 use Rattle.textform.specs.Reading.{before, digit, ended, labelled, lineRead, named, numeral, numeralOf, placed, scan, scanFrom, spaces, starts, unknownKind, worded}
 use Rattle.textform.specs.Writing.{textOf}
@@ -62,7 +62,24 @@ first-3 s l = ap (λ x. byte s 0 ∷ byte s 1 ∷ x) (sym (drop-cons s 2 0 l)) �
 
 numeral-exact : (s : List ℕ) → 1 ≤ numeral s .width → digitsIn 5 (numeral s .value) ++ drop (numeral s .width) s ≡ s
 unfolding numeral
-numeral-exact s h = go (digit a) (ℕ-discrete a 48) (digit b) (digit c) refl refl refl
+numeral-exact s =
+    numeral-cases (λ n. 1 ≤ n .width → digitsIn 5 (n .value) ++ drop (n .width) s ≡ s) a b c
+    (λ p h. absurd (omega arith))
+    (λ p u h. rw (digits-1 0 (omega arith)) (ap (λ n. n ∷ drop 1 s) (sym u) ∙ first-1 s (digit-inside s 0 p)))
+    (λ p u q h.
+      rw (digits-1 (a - 48) (omega (arith, digit-high a p)))
+      (let e : 48 + (a - 48) ≡ a = omega (arith, digit-low a p) in rw e (first-1 s (digit-inside s 0 p))))
+    (λ p u q r h.
+      rw (digits-2 (10 * (a - 48) + (b - 48)) (omega (arith, digit-low a p)) (omega (arith, digit-high a p, digit-high b q)))
+      (let e : 48 + (10 * (a - 48) + (b - 48)) / 10 ≡ a = omega (arith, digit-low a p, digit-low b q, digit-high b q) in
+      let f : 48 + (10 * (a - 48) + (b - 48)) % 10 ≡ b = omega (arith, digit-low b q, digit-high b q) in
+      rw (e, f) (first-2 s (digit-inside s 1 q))))
+    (λ p u q r h.
+      rw (digits-3 (100 * (a - 48) + (10 * (b - 48) + (c - 48))) (omega (arith, digit-low a p)) (omega (arith, digit-high a p, digit-high b q, digit-high c r)))
+      (let e : 48 + (100 * (a - 48) + (10 * (b - 48) + (c - 48))) / 10 / 10 ≡ a = omega (arith, digit-low a p, digit-low b q, digit-high b q, digit-low c r, digit-high c r) in
+      let f : 48 + (100 * (a - 48) + (10 * (b - 48) + (c - 48))) / 10 % 10 ≡ b = omega (arith, digit-low b q, digit-high b q, digit-low c r, digit-high c r) in
+      let g : 48 + (100 * (a - 48) + (10 * (b - 48) + (c - 48))) % 10 ≡ c = omega (arith, digit-low c r, digit-high c r) in
+      rw (e, f, g) (first-3 s (digit-inside s 2 r))))
   where
     a : ℕ
     a = byte s 0
@@ -72,27 +89,6 @@ numeral-exact s h = go (digit a) (ℕ-discrete a 48) (digit b) (digit c) refl re
 
     c : ℕ
     c = byte s 2
-
-    go : (x : Bool) → Dec (a ≡ 48) → (y z : Bool) → digit a ≡ x → digit b ≡ y → digit c ≡ z → digitsIn 5 (numeralOf a b c .value) ++ drop (numeralOf a b c .width) s ≡ s
-    go false o y z p q r = absurd (omega (arith, ap (λ n. n .width) (numeral-none a b c p)))
-    go true (yes u) y z p q r = rw (numeral-0 a b c u) (rw (digits-1 0 (omega arith)) (ap (λ n. n ∷ drop 1 s) (sym u) ∙ first-1 s (digit-inside s 0 p)))
-    go true (no u) false z p q r =
-        rw (numeral-1 a b c p u q)
-        (rw (digits-1 (a - 48) (omega (arith, digit-high a p)))
-        (let e : 48 + (a - 48) ≡ a = omega (arith, digit-low a p) in rw e (first-1 s (digit-inside s 0 p))))
-    go true (no u) true false p q r =
-        rw (numeral-2 a b c p u q r)
-        (rw (digits-2 (10 * (a - 48) + (b - 48)) (omega (arith, digit-low a p)) (omega (arith, digit-high a p, digit-high b q)))
-        (let e : 48 + (10 * (a - 48) + (b - 48)) / 10 ≡ a = omega (arith, digit-low a p, digit-low b q, digit-high b q) in
-        let f : 48 + (10 * (a - 48) + (b - 48)) % 10 ≡ b = omega (arith, digit-low b q, digit-high b q) in
-        rw (e, f) (first-2 s (digit-inside s 1 q))))
-    go true (no u) true true p q r =
-        rw (numeral-3 a b c p u q r)
-        (rw (digits-3 (100 * (a - 48) + (10 * (b - 48) + (c - 48))) (omega (arith, digit-low a p)) (omega (arith, digit-high a p, digit-high b q, digit-high c r)))
-        (let e : 48 + (100 * (a - 48) + (10 * (b - 48) + (c - 48))) / 10 / 10 ≡ a = omega (arith, digit-low a p, digit-low b q, digit-high b q, digit-low c r, digit-high c r) in
-        let f : 48 + (100 * (a - 48) + (10 * (b - 48) + (c - 48))) / 10 % 10 ≡ b = omega (arith, digit-low b q, digit-high b q, digit-low c r, digit-high c r) in
-        let g : 48 + (100 * (a - 48) + (10 * (b - 48) + (c - 48))) % 10 ≡ c = omega (arith, digit-low c r, digit-high c r) in
-        rw (e, f, g) (first-3 s (digit-inside s 2 r))))
 
 -- what is left of a part is left of the whole
 left-same : (n : ℕ) (s : List ℕ) (left : ℕ) → left < length (drop n s) → drop (length (drop n s) - left) (drop n s) ≡ drop (length s - left) s

@@ -1,5 +1,5 @@
 -- Reading, a byte at a time: what each test of the code decides.
-use Prim.Native.Nat.{_%_, _+_, _-_, _/_, _<_, _≤_, suc, ℕ}
+use Prim.Native.Nat.{_%_, _*_, _+_, _-_, _/_, _<_, _≤_, suc, ℕ}
 use borrow.Author.Tests.{eq-eqb, leb-true, le-leb, lt-leb, ne-eqb}
 use lib.Dec.{eqb}
 use lib.ListN.{List·getD-eq-default, drop, drop-of-length-le, getD, length, length-drop, take}
@@ -79,26 +79,33 @@ pub numeral-none : (a b c : ℕ) → digit a ≡ false → numeralOf a b c ≡ r
 unfolding numeralOf
 numeral-none a b c e = rw (e, numeralOf)
 
+-- what holds of each width that a number may have holds of the number
+pub numeral-cases : (P : Decimal → Type 0) (a b c : ℕ) →
+    (digit a ≡ false → P (record { value = 0; width = 0 })) →
+    (digit a ≡ true → a ≡ 48 → P (record { value = 0; width = 1 })) →
+    (digit a ≡ true → a ≢ 48 → digit b ≡ false → P (record { value = a - 48; width = 1 })) →
+    (digit a ≡ true → a ≢ 48 → digit b ≡ true → digit c ≡ false → P (record { value = 10 * (a - 48) + (b - 48); width = 2 })) →
+    (digit a ≡ true → a ≢ 48 → digit b ≡ true → digit c ≡ true → P (record { value = 100 * (a - 48) + (10 * (b - 48) + (c - 48)); width = 3 })) →
+    P (numeralOf a b c)
+numeral-cases P a b c none zero′ one two three = go (digit a) (ℕ-discrete a 48) (digit b) (digit c) refl refl refl
+  where
+    go : (x : Bool) → Dec (a ≡ 48) → (y z : Bool) → digit a ≡ x → digit b ≡ y → digit c ≡ z → P (numeralOf a b c)
+    go false o y z p q r = rw (numeral-none a b c p) (none p)
+    go true (yes u) y z p q r = rw (numeral-0 a b c u) (zero′ p u)
+    go true (no u) false z p q r = rw (numeral-1 a b c p u q) (one p u q)
+    go true (no u) true false p q r = rw (numeral-2 a b c p u q r) (two p u q r)
+    go true (no u) true true p q r = rw (numeral-3 a b c p u q r) (three p u q r)
+
 -- the bytes of a number are there
 pub numeral-width : (s : List ℕ) → numeral s .width ≤ length s
 unfolding numeral
-numeral-width s = go (digit a) (ℕ-discrete a 48) (digit b) (digit c) refl refl refl
-  where
-    a : ℕ
-    a = byte s 0
-
-    b : ℕ
-    b = byte s 1
-
-    c : ℕ
-    c = byte s 2
-
-    go : (x : Bool) → Dec (a ≡ 48) → (y z : Bool) → digit a ≡ x → digit b ≡ y → digit c ≡ z → numeralOf a b c .width ≤ length s
-    go false o y z p q r = rw (numeral-none a b c p) (omega arith)
-    go true (yes u) y z p q r = rw (numeral-0 a b c u) (omega (arith, digit-inside s 0 p))
-    go true (no u) false z p q r = rw (numeral-1 a b c p u q) (omega (arith, digit-inside s 0 p))
-    go true (no u) true false p q r = rw (numeral-2 a b c p u q r) (omega (arith, digit-inside s 1 q))
-    go true (no u) true true p q r = rw (numeral-3 a b c p u q r) (omega (arith, digit-inside s 2 r))
+numeral-width s =
+    numeral-cases (λ n. n .width ≤ length s) (byte s 0) (byte s 1) (byte s 2)
+    (λ p. omega arith)
+    (λ p u. omega (arith, digit-inside s 0 p))
+    (λ p u q. omega (arith, digit-inside s 0 p))
+    (λ p u q r. omega (arith, digit-inside s 1 q))
+    (λ p u q r. omega (arith, digit-inside s 2 r))
 
 pub ended-none : (l : Line) (s : List ℕ) → length s ≡ 0 → ended l s ≡ Bad 10
 unfolding ended
