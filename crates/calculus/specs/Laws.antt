@@ -18,7 +18,7 @@ use Rattle.model.specs.Laws.Updates.{dissolved-moved, dissolved-self, dissolved
 use Rattle.model.specs.Laws.Bytes.{at-whole, valid-wf}
 use Rattle.model.specs.Laws.Done.{Done, cap-pos, done-other, in-live, open-beside, out-live, outcome-done, partner-pos}
 use Rattle.model.specs.Laws.WellFormed.{WellFormed, dissolve-parent-stays, parent-not-self, place-parent-other}
-use Rattle.model.specs.Records.{Capability, at, cap-in, cap-open, cap-out, capability, decode, encode, gone, isAmbient, parentOf, records, update, updateFrom}
+use Rattle.model.specs.Records.{Capability, at, cap-in, cap-open, cap-out, capability, decode, encode, isAmbient, parentOf, records, update, updateFrom}
 use Rattle.model.specs.Refusals.{andThen, answer, done, pass, refused}
 use Rattle.model.specs.Steps.{Outcome, answerOf, decide, dissolve, dissolved, fit, met, move, outcome, outcomeBy, place, placed, ready, rewritten, stands, stepBytes, to, unmet}
 use Rattle.model.specs.Validity.{validity}

@@ -1,7 +1,6 @@
 -- The screen's values; the row entry: a row is there exactly where the row request hands back 16 bytes.
 use Prim.Native.Nat.{_*_, _+_, _≤_, ℕ}
 use borrow.Author.Tests.{eqb-true, leb-true}
-use lib.Count.{ones}
 use lib.Dec.{eqb, leb}
 use lib.ListN.{drop, length, length-drop, take}
 use lib.Seq.{length-take-le}
@@ -10,7 +9,7 @@ use mathlib.Core.List.{List}
 use mathlib.Core.Logic.{_≢_}
 use mathlib.Core.Path.{_∙_, _≡_, ap, refl}
 use native.Mathlib.Omega.{arith}
-use Rattle.firmware.specs.Packing.{counts, rowBy, rows, screens, values, verdictCode}
+use Rattle.firmware.specs.Packing.{rowBy, rows, screens, values, verdictCode}
 use Rattle.model.specs.Laws.WellFormed.{and-left, and-right}
 use Rattle.model.specs.Tables.{partIf, rowOf, tableSized}
 use Rattle.model.specs.Verdicts.{labelOf}

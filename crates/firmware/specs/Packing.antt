@@ -2,7 +2,6 @@
 -- number and record, and values 0, where it is refused.
 use Rattle.firmware.specs.declared.HubResult.{HubResult}
 use Prim.Native.Nat.{_*_, _+_, ℕ}
-use lib.Count.{ones}
 use lib.Dec.{leb}
 use mathlib.Core.Bool.{Bool, _&&_, false, true}
 use mathlib.Core.List.{List}

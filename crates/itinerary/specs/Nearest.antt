@@ -2,12 +2,10 @@
 use Prim.Native.Nat.{_+_, _-_, _<_, _≤_, suc, zero, ℕ}
 use lib.ListN.{getD, getD-replicate, length, length-replicate, length-set, replicate, set}
 use lib.Seq.{getD-set-other, getD-set-same}
-use mathlib.Core.Bool.{true}
 use mathlib.Core.List.{List}
 use mathlib.Core.Logic.{_≢_}
 use mathlib.Core.Path.{_∙_, _≡_, ap, refl, sym}
-use native.Mathlib.Decide.{decLt, ℕ-discrete}
-use native.Mathlib.Nat.{eq-or-lt-of-le}
+use native.Mathlib.Decide.{ℕ-discrete}
 use native.Mathlib.Omega.{arith}
 use Rattle.model.specs.Climbing.{container, labelled, nearest, nesting}
 use Rattle.model.specs.Laws.Bytes.{at-whole, length-records, valid-wf}

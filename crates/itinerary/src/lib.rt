@@ -7,7 +7,7 @@ use model::Validated;
 ghost use mathlib.Core.Path.{_≡_};
 ghost use Prim.Native.Nat.{_*_, _<_, _≤_, _%_};
 ghost use lib.ListN.{length};
-ghost use Rattle.model.specs.Records.{byteOf, count, decode, nested, records, word};
+ghost use Rattle.model.specs.Records.{count, nested, records};
 ghost use Rattle.model.specs.Climbing.{container, labelled, nearest, reaches, standing, viewFrom};
 ghost use Rattle.model.specs.Refusals.{answer, eachOf, pass};
 ghost use Rattle.model.specs.Validity.{climbCheck, goneRight, labelRight, nameRight, parentRight, recordCheck, spareRight, validity};

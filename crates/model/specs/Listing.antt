@@ -1,6 +1,5 @@
 -- Document 01, "The program `hubscreen`": what it writes, from what its three files hold.
 use Prim.Native.Nat.{_%_, _+_, _/_, suc, zero, ℕ}
-use lib.Count.{ones}
 use lib.Dec.{leb}
 use lib.ListN.{length, replicate}
 use mathlib.Core.Bool.{false, true}

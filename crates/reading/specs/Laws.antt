@@ -6,7 +6,6 @@ use mathlib.Core.Path.{_∙_, _≡_, ap, ap₂, refl, sym}
 use native.Mathlib.Omega.{arith}
 use Rattle.model.specs.Laws.Bytes.{rec-path}
 use Rattle.model.specs.Records.{byte, byteOf, decode, word}
-use Rattle.model.specs.declared.Rec.{Rec}
 
 pub byte-of : (s : List ℕ) (i k : ℕ) → i ≢ 0 → byteOf s i k ≡ byte s (8 * (i - 1) + k)
 unfolding byteOf

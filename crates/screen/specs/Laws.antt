@@ -13,12 +13,12 @@ use Rattle.model.specs.Calls.{makeAfter, makeAnswer, making, runAfter, runAnswe
 use Rattle.model.specs.Finite.{unequal, digit, tally}
 use Rattle.model.specs.Laws.Bytes.{at-whole, length-records, passed, size-le, size-whole}
 use Rattle.model.specs.Laws.Checks.{answer-done, answer-value, need-make, need-pass, then-pass}
-use Rattle.model.specs.Laws.Done.{Done, list-valid}
+use Rattle.model.specs.Laws.Done.{list-valid}
 use Rattle.model.specs.Laws.WellFormed.{and-left}
 use Rattle.model.specs.Least.{leastTable}
 use Rattle.model.specs.Numbers.{madeAs, ranAs, refusal}
 use Rattle.model.specs.Records.{at, byteOf, count, decode, records}
-use Rattle.model.specs.Refusals.{Answer, Check, andThen, answer, content, done, need, number, pass, refuse, refused}
+use Rattle.model.specs.Refusals.{Answer, Check, andThen, answer, content, done, need, pass, refuse, refused}
 use Rattle.model.specs.Scripts.{afterList, answersOf, countsOf, notGone, stepsIn, outcomes, scriptRight}
 use Rattle.model.specs.Tables.{bits, parts, policyRight, tableSized, total}
 use Rattle.model.specs.Validity.{validity}

@@ -4,13 +4,10 @@ use Rattle.itinerary.specs.Laws.{valid-few, valid-whole}
 use Rattle.reading.specs.Written.{pass-end, pass-length, pass-next, pass-read, pass-whole, written, written-none}
 use Rattle.calculus.specs.Moves.{applied, remade}
 use native.Mathlib.Omega.{arith}
-use mathlib.Core.Path.{_∙_, _≡_, ap, refl, sym}
+use mathlib.Core.Path.{_∙_, _≡_, refl}
 use Prim.Native.Nat.{_-_, _≤_}
 use Rattle.calculus.proofs.apply.Statement.{statement}
 use Rattle.calculus.proofs.apply.Tie as tie
-use Rattle.calculus.proofs.apply.Reads as reads
-use Rattle.calculus.proofs.apply.Lts as lts
-use Rattle.calculus.proofs.remake.Reads as remake-reads
 
 abbrev Inv-loop : tie.InvT-loop
 Inv-loop it₀ m n i₀ it i = (i ≤ n) × (it ≡ written (update (remade m) (records it₀)) i it₀)

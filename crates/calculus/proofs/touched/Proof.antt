@@ -1,10 +1,8 @@
 -- `calculus::touched` meets its contract.
 use Rattle.calculus.specs.Moves.{touchedBy}
-use mathlib.Core.Path.{_∙_, _≡_, ap, refl, sym}
+use mathlib.Core.Path.{refl}
 use Rattle.calculus.proofs.touched.Statement.{statement}
 use Rattle.calculus.proofs.touched.Tie as tie
-use Rattle.calculus.proofs.touched.Reads as reads
-use Rattle.calculus.proofs.touched.Lts as lts
 
 -- src/lib.rt:170:1
 returns : tie.Need-returns

@@ -1,13 +1,9 @@
 -- The call's contract, packed. Assumes nothing.
-use mathlib.Core.Path.{_≡_, refl, sym, ap, _∙_}
-use Rattle.firmware.specs.Packing.{packed, values, refusalOf, bare, single, counts, verdicts, verdictCode, screens, rows, rowBy}
+use mathlib.Core.Path.{ap, _∙_}
+use Rattle.firmware.specs.Packing.{packed, bare}
 use borrow.Author.Needs.{needs}
 use Rattle.firmware.proofs.hub_check.Statement.{statement}
 use Rattle.firmware.proofs.hub_check.Tie as tie
-use Rattle.firmware.proofs.hub_check.Reads as reads
-use Rattle.firmware.proofs.hub_check.Lts as lts
-use Rattle.analysis.proofs.check.Reads as check-reads
-use Rattle.firmware.proofs.performed.Reads as performed-reads
 
 -- src/lib.rt:205:15
 check-requires : tie.Need-check-requires

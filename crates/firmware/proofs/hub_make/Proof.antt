@@ -1,13 +1,9 @@
 -- The call's contract, packed. Assumes nothing.
-use mathlib.Core.Path.{_≡_, refl, sym, ap, _∙_}
-use Rattle.firmware.specs.Packing.{packed, values, refusalOf, bare, single, counts, verdicts, verdictCode, screens, rows, rowBy}
+use mathlib.Core.Path.{ap, _∙_}
+use Rattle.firmware.specs.Packing.{packed, single}
 use borrow.Author.Needs.{needs}
 use Rattle.firmware.proofs.hub_make.Statement.{statement}
 use Rattle.firmware.proofs.hub_make.Tie as tie
-use Rattle.firmware.proofs.hub_make.Reads as reads
-use Rattle.firmware.proofs.hub_make.Lts as lts
-use Rattle.analysis.proofs.make.Reads as make-reads
-use Rattle.firmware.proofs.made.Reads as made-reads
 
 -- src/lib.rt:214:10
 make-requires : tie.Need-make-requires

@@ -1,14 +1,10 @@
 -- By the length of the row handed back. Assumes nothing.
 use Rattle.firmware.specs.Laws.{row-there, row-none}
 use lib.ListN.{length}
-use mathlib.Core.Path.{_≡_, refl, sym, ap, ap₂, _∙_}
+use mathlib.Core.Path.{sym, ap, _∙_}
 use borrow.Author.Needs.{needs}
 use Rattle.firmware.proofs.hub_row.Statement.{statement}
 use Rattle.firmware.proofs.hub_row.Tie as tie
-use Rattle.firmware.proofs.hub_row.Reads as reads
-use Rattle.firmware.proofs.hub_row.Lts as lts
-use Rattle.firmware.proofs.done.Reads as done-reads
-use Rattle.tables.proofs.row.Reads as row-reads
 
 -- src/lib.rt:231:9
 row-requires : tie.Need-row-requires

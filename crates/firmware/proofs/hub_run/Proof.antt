@@ -1,13 +1,9 @@
 -- The call's contract, packed. Assumes nothing.
-use mathlib.Core.Path.{_≡_, refl, sym, ap, _∙_}
-use Rattle.firmware.specs.Packing.{packed, values, refusalOf, bare, single, counts}
+use mathlib.Core.Path.{ap, _∙_}
+use Rattle.firmware.specs.Packing.{packed, counts}
 use borrow.Author.Needs.{needs}
 use Rattle.firmware.proofs.hub_run.Statement.{statement}
 use Rattle.firmware.proofs.hub_run.Tie as tie
-use Rattle.firmware.proofs.hub_run.Reads as reads
-use Rattle.firmware.proofs.hub_run.Lts as lts
-use Rattle.calculus.proofs.run.Reads as run-reads
-use Rattle.firmware.proofs.ran.Reads as ran-reads
 
 -- src/lib.rt:132:9
 run-requires : tie.Need-run-requires

@@ -1,13 +1,9 @@
 -- The call's contract, packed. Assumes nothing.
-use mathlib.Core.Path.{_≡_, refl, sym, ap, _∙_}
-use Rattle.firmware.specs.Packing.{packed, values, refusalOf, bare, single, counts, verdicts, verdictCode, screens, rows, rowBy}
+use mathlib.Core.Path.{ap, _∙_}
+use Rattle.firmware.specs.Packing.{packed, screens}
 use borrow.Author.Needs.{needs}
 use Rattle.firmware.proofs.hub_screen.Statement.{statement}
 use Rattle.firmware.proofs.hub_screen.Tie as tie
-use Rattle.firmware.proofs.hub_screen.Reads as reads
-use Rattle.firmware.proofs.hub_screen.Lts as lts
-use Rattle.firmware.proofs.screened.Reads as screened-reads
-use Rattle.screen.proofs.screen.Reads as screen-reads
 
 -- src/lib.rt:246:14
 screen-requires : tie.Need-screen-requires

@@ -1,13 +1,9 @@
 -- The call's contract, packed. Assumes nothing.
-use mathlib.Core.Path.{_≡_, refl, sym, ap, _∙_}
-use Rattle.firmware.specs.Packing.{packed, values, refusalOf, bare, single, counts}
+use mathlib.Core.Path.{ap, _∙_}
+use Rattle.firmware.specs.Packing.{packed, bare}
 use borrow.Author.Needs.{needs}
 use Rattle.firmware.proofs.hub_sheet.Statement.{statement}
 use Rattle.firmware.proofs.hub_sheet.Tie as tie
-use Rattle.firmware.proofs.hub_sheet.Reads as reads
-use Rattle.firmware.proofs.hub_sheet.Lts as lts
-use Rattle.firmware.proofs.performed.Reads as performed-reads
-use Rattle.observer.proofs.sheet.Reads as sheet-reads
 
 -- src/lib.rt:113:15
 sheet-requires : tie.Need-sheet-requires

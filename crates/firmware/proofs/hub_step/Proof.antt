@@ -1,13 +1,9 @@
 -- The call's contract, packed. Assumes nothing.
-use mathlib.Core.Path.{_≡_, refl, sym, ap, _∙_}
-use Rattle.firmware.specs.Packing.{packed, values, refusalOf, bare, single, counts}
+use mathlib.Core.Path.{ap, _∙_}
+use Rattle.firmware.specs.Packing.{packed, bare}
 use borrow.Author.Needs.{needs}
 use Rattle.firmware.proofs.hub_step.Statement.{statement}
 use Rattle.firmware.proofs.hub_step.Tie as tie
-use Rattle.firmware.proofs.hub_step.Reads as reads
-use Rattle.firmware.proofs.hub_step.Lts as lts
-use Rattle.calculus.proofs.step.Reads as step-reads
-use Rattle.firmware.proofs.performed.Reads as performed-reads
 
 -- src/lib.rt:122:15
 step-requires : tie.Need-step-requires

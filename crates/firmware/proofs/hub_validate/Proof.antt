@@ -1,13 +1,9 @@
 -- The call's contract, packed. Assumes nothing.
-use mathlib.Core.Path.{_≡_, refl, sym, ap, _∙_}
-use Rattle.firmware.specs.Packing.{packed, values, refusalOf, bare, single, counts}
+use mathlib.Core.Path.{ap, _∙_}
+use Rattle.firmware.specs.Packing.{packed, single}
 use borrow.Author.Needs.{needs}
 use Rattle.firmware.proofs.hub_validate.Statement.{statement}
 use Rattle.firmware.proofs.hub_validate.Tie as tie
-use Rattle.firmware.proofs.hub_validate.Reads as reads
-use Rattle.firmware.proofs.hub_validate.Lts as lts
-use Rattle.firmware.proofs.validated.Reads as validated-reads
-use Rattle.itinerary.proofs.validate.Reads as validate-reads
 
 -- src/lib.rt:96:15
 validate-requires : tie.Need-validate-requires

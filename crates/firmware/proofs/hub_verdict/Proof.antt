@@ -1,13 +1,9 @@
 -- The call's contract, packed. Assumes nothing.
-use mathlib.Core.Path.{_≡_, refl, sym, ap, _∙_}
-use Rattle.firmware.specs.Packing.{packed, values, refusalOf, bare, single, counts, verdicts, verdictCode, screens, rows, rowBy}
+use mathlib.Core.Path.{ap, _∙_}
+use Rattle.firmware.specs.Packing.{packed, verdicts}
 use borrow.Author.Needs.{needs}
 use Rattle.firmware.proofs.hub_verdict.Statement.{statement}
 use Rattle.firmware.proofs.hub_verdict.Tie as tie
-use Rattle.firmware.proofs.hub_verdict.Reads as reads
-use Rattle.firmware.proofs.hub_verdict.Lts as lts
-use Rattle.analysis.proofs.verdict.Reads as verdict-reads
-use Rattle.firmware.proofs.judged.Reads as judged-reads
 
 -- src/lib.rt:222:12
 verdict-requires : tie.Need-verdict-requires

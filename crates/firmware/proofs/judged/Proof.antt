@@ -1,16 +1,10 @@
 -- By the answer's case. Assumes nothing.
-use mathlib.Core.Path.{_≡_, refl, sym, ap, ap₂, _∙_}
-use Rattle.firmware.specs.Packing.{packed, values, refusalOf, bare, single, counts, verdicts, verdictCode, screens, rows, rowBy}
-use Rattle.model.specs.Numbers.{performedAs, validatedAs, containedAs, madeAs, judgedAs, ranAs, screenedAs, refusal}
+use mathlib.Core.Path.{sym, ap, ap₂, _∙_}
+use Rattle.firmware.specs.Packing.{packed, values, verdicts}
+use Rattle.model.specs.Numbers.{judgedAs, refusal}
 use borrow.Author.Needs.{needs}
 use Rattle.firmware.proofs.judged.Statement.{statement}
 use Rattle.firmware.proofs.judged.Tie as tie
-use Rattle.firmware.proofs.judged.Reads as reads
-use Rattle.firmware.proofs.judged.Lts as lts
-use Rattle.firmware.proofs.done.Reads as done-reads
-use Rattle.firmware.proofs.refused.Reads as refused-reads
-use Rattle.firmware.proofs.verdict_code.Reads as verdict-code-reads
-use Rattle.firmware.proofs.verdict_label.Reads as verdict-label-reads
 
 -- src/lib.rt:129:22
 enum-known-x : tie.Need-enum-known-x

@@ -1,14 +1,10 @@
 -- By the answer's case. Assumes nothing.
-use mathlib.Core.Path.{_≡_, refl, sym, ap, _∙_}
-use Rattle.firmware.specs.Packing.{packed, values, refusalOf, bare, single, counts, verdicts, verdictCode, screens, rows, rowBy}
-use Rattle.model.specs.Numbers.{performedAs, validatedAs, containedAs, madeAs, judgedAs, ranAs, screenedAs, refusal}
+use mathlib.Core.Path.{sym, ap, _∙_}
+use Rattle.firmware.specs.Packing.{packed, single}
+use Rattle.model.specs.Numbers.{madeAs, refusal}
 use borrow.Author.Needs.{needs}
 use Rattle.firmware.proofs.made.Statement.{statement}
 use Rattle.firmware.proofs.made.Tie as tie
-use Rattle.firmware.proofs.made.Reads as reads
-use Rattle.firmware.proofs.made.Lts as lts
-use Rattle.firmware.proofs.done.Reads as done-reads
-use Rattle.firmware.proofs.refused.Reads as refused-reads
 
 -- src/lib.rt:100:20
 enum-known-x : tie.Need-enum-known-x

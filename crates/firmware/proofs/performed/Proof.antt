@@ -1,14 +1,10 @@
 -- By the answer's case. Assumes nothing.
-use mathlib.Core.Path.{_≡_, refl, sym, ap, _∙_}
-use Rattle.firmware.specs.Packing.{packed, values, refusalOf, bare, single, counts}
-use Rattle.model.specs.Numbers.{performedAs, validatedAs, containedAs, madeAs, judgedAs, ranAs, screenedAs, refusal}
+use mathlib.Core.Path.{sym, ap, _∙_}
+use Rattle.firmware.specs.Packing.{packed, bare}
+use Rattle.model.specs.Numbers.{performedAs, refusal}
 use borrow.Author.Needs.{needs}
 use Rattle.firmware.proofs.performed.Statement.{statement}
 use Rattle.firmware.proofs.performed.Tie as tie
-use Rattle.firmware.proofs.performed.Reads as reads
-use Rattle.firmware.proofs.performed.Lts as lts
-use Rattle.firmware.proofs.done.Reads as done-reads
-use Rattle.firmware.proofs.refused.Reads as refused-reads
 
 -- src/lib.rt:59:28
 enum-told : tie.Need-enum-told

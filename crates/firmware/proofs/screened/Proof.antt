@@ -1,17 +1,12 @@
 -- By the answer's case. Assumes nothing.
 use Rattle.firmware.specs.Laws.{screens-as}
 use Rattle.model.specs.Numbers.{screenedAs, refusal}
-use Rattle.firmware.specs.Packing.{packed, values, refusalOf, screens, verdictCode}
+use Rattle.firmware.specs.Packing.{packed, values, screens}
 use native.Mathlib.Omega.{arith}
-use mathlib.Core.Path.{_≡_, refl, sym, ap, ap₂, _∙_}
+use mathlib.Core.Path.{sym, ap, _∙_}
 use borrow.Author.Needs.{needs}
 use Rattle.firmware.proofs.screened.Statement.{statement}
 use Rattle.firmware.proofs.screened.Tie as tie
-use Rattle.firmware.proofs.screened.Reads as reads
-use Rattle.firmware.proofs.screened.Lts as lts
-use Rattle.firmware.proofs.refused.Reads as refused-reads
-use Rattle.firmware.proofs.verdict_code.Reads as verdict-code-reads
-use Rattle.firmware.proofs.verdict_label.Reads as verdict-label-reads
 
 -- src/lib.rt:138:24
 enum-known-x : tie.Need-enum-known-x

@@ -1,12 +1,10 @@
 -- By the verdict's case. Assumes nothing.
 use Rattle.firmware.specs.Packing.{verdictCode}
 use native.Mathlib.Omega.{arith}
-use mathlib.Core.Path.{_≡_, refl, sym, ap, ap₂, _∙_}
+use mathlib.Core.Path.{sym, ap}
 use borrow.Author.Needs.{needs}
 use Rattle.firmware.proofs.verdict_code.Statement.{statement}
 use Rattle.firmware.proofs.verdict_code.Tie as tie
-use Rattle.firmware.proofs.verdict_code.Reads as reads
-use Rattle.firmware.proofs.verdict_code.Lts as lts
 
 -- src/lib.rt:109:32
 enum-told : tie.Need-enum-told

@@ -1,11 +1,9 @@
 -- By the verdict's case. Assumes nothing.
-use mathlib.Core.Path.{_≡_, refl, sym, ap, _∙_}
+use mathlib.Core.Path.{sym, ap}
 use Rattle.model.specs.Verdicts.{labelOf}
 use borrow.Author.Needs.{needs}
 use Rattle.firmware.proofs.verdict_label.Statement.{statement}
 use Rattle.firmware.proofs.verdict_label.Tie as tie
-use Rattle.firmware.proofs.verdict_label.Reads as reads
-use Rattle.firmware.proofs.verdict_label.Lts as lts
 
 -- src/lib.rt:119:26
 enum-known-v : tie.Need-enum-known-v

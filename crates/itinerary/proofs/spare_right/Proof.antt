@@ -3,9 +3,6 @@ use borrow.Author.Needs.{needs}
 use Rattle.itinerary.specs.Laws.{spare-direct}
 use Rattle.itinerary.proofs.spare_right.Statement.{statement}
 use Rattle.itinerary.proofs.spare_right.Tie as tie
-use Rattle.itinerary.proofs.spare_right.Reads as reads
-use Rattle.itinerary.proofs.spare_right.Lts as lts
-use Rattle.itinerary.proofs.spare_edge.Reads as spare-edge-reads
 
 -- src/lib.rt:97:9
 spare-edge-requires : tie.Need-spare-edge-requires

@@ -22,7 +22,7 @@ use Rattle.model.specs.Records.{at, isAmbient, parentOf}
 use Rattle.model.specs.Tables.{Table, isBoundary, isHigh}
 use Rattle.model.specs.Verdicts.{inR, opening, verdictBy, verdictOf}
 use Rattle.model.specs.declared.Rec.{Rec}
-use Rattle.model.specs.declared.Verdict.the-variants.{Exposed, Hinted, Sealed}
+use Rattle.model.specs.declared.Verdict.the-variants.{Sealed}
 
 -- what a sealed verdict says of a table and a policy
 pub record Closed (T : Table) (policy : List ℕ) : Type 0 where

@@ -11,7 +11,6 @@ use Rattle.model.specs.Laws.Holding.{Holds}
 use Rattle.model.specs.Laws.SubjectReduction.{ruled}
 use Rattle.model.specs.Laws.Transport.{Gives, Mono, Nest, Nesting, move-moved}
 use Rattle.model.specs.Laws.WellFormed.{WellFormed}
-use Rattle.model.specs.Noninterference.{kept}
 use Rattle.model.specs.Records.{Capability, at, cap-in, cap-open, cap-out, isAmbient, parentOf}
 use Rattle.model.specs.Steps.{move}
 use Rattle.model.specs.Tables.{Table}

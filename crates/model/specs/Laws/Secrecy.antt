@@ -30,7 +30,7 @@ use Rattle.model.specs.Steps.{answerOf, outcome, step, stepBytes}
 use Rattle.model.specs.Tables.{Table, bits, isBoundary, isHigh, parts, policyRight, suspects, tableRight}
 use Rattle.model.specs.Validity.{validity}
 use Rattle.model.specs.declared.Rec.{Rec}
-use Rattle.model.specs.declared.Verdict.the-variants.{Exposed, Hinted, Sealed}
+use Rattle.model.specs.declared.Verdict.the-variants.{Sealed}
 
 -- what acceptance says
 pub record Accepted (s policy table : List ℕ) : Type 0 where

@@ -4,11 +4,6 @@ use Rattle.model.specs.Tables.{bits}
 use Rattle.reach.specs.Laws.{exposed-is, hinted-is, sealed-is}
 use Rattle.reach.proofs.judge.Statement.{statement}
 use Rattle.reach.proofs.judge.Tie as tie
-use Rattle.reach.proofs.judge.Reads as reads
-use Rattle.reach.proofs.judge.Lts as lts
-use Rattle.reach.proofs.lowest_high.Reads as lowest-high-reads
-use Rattle.reach.proofs.lowest_suspect.Reads as lowest-suspect-reads
-use Rattle.reach.proofs.reach.Reads as reach-reads
 
 reach-requires : tie.Need-reach-requires
 reach-requires c κs = search needs

@@ -4,9 +4,6 @@ use Rattle.reading.specs.Laws.{parent-direct}
 use borrow.Author.Needs.{needs}
 use Rattle.reading.proofs.parent_of.Statement.{statement}
 use Rattle.reading.proofs.parent_of.Tie as tie
-use Rattle.reading.proofs.parent_of.Reads as reads
-use Rattle.reading.proofs.parent_of.Lts as lts
-use Rattle.reading.proofs.word.Reads as word-reads
 
 -- src/lib.rt:74:19
 sub-at : tie.Need-sub-at

@@ -1,16 +1,11 @@
 -- The commands left to do fall, and no buffer changes its length. Assumes nothing.
-use Prim.Native.Nat.{_≤_, _-_}
+use Prim.Native.Nat.{_-_}
 use mathlib.Core.Path.{_≡_}
 use native.Mathlib.Omega.{arith}
 use borrow.Author.Needs.{needs}
 use lib.ListN.{length}
 use Rattle.replay.proofs.commands.Statement.{statement}
 use Rattle.replay.proofs.commands.Tie as tie
-use Rattle.replay.proofs.commands.Reads as reads
-use Rattle.replay.proofs.commands.Lts as lts
-use Rattle.replay.proofs.command.Reads as command-reads
-use Rattle.replay.proofs.start.Reads as start-reads
-use Rattle.replay.proofs.byte.Reads as byte-reads
 
 abbrev Inv-loop : tie.InvT-loop
 Inv-loop fd it₀ it2₀ policy₀ table₀ table2₀ script₀ answers₀ answers2₀ sheet₀ sheet2₀ s₀ left₀ it it2 policy table table2 script answers answers2 sheet sheet2 s left =

@@ -5,8 +5,6 @@ use native.Mathlib.Omega.{arith}
 use borrow.Author.Needs.{needs}
 use Rattle.replay.proofs.part_mut.Statement.{statement}
 use Rattle.replay.proofs.part_mut.Tie as tie
-use Rattle.replay.proofs.part_mut.Reads as reads
-use Rattle.replay.proofs.part_mut.Lts as lts
 
 -- src/lib.rt:16:9
 returns : tie.Need-returns

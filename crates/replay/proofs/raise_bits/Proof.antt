@@ -1,16 +1,10 @@
 -- The bits left to set fall. Assumes nothing.
-use Prim.Native.Nat.{_≤_, _-_}
+use Prim.Native.Nat.{_-_}
 use mathlib.Core.Path.{_≡_}
-use native.Mathlib.Omega.{arith}
 use borrow.Author.Needs.{needs}
 use lib.ListN.{length}
 use Rattle.replay.proofs.raise_bits.Statement.{statement}
 use Rattle.replay.proofs.raise_bits.Tie as tie
-use Rattle.replay.proofs.raise_bits.Reads as reads
-use Rattle.replay.proofs.raise_bits.Lts as lts
-use Rattle.replay.proofs.raise.Reads as raise-reads
-use Rattle.replay.proofs.wide.Reads as wide-reads
-use Rattle.replay.proofs.word.Reads as word-reads
 
 abbrev Inv-loop : tie.InvT-loop
 Inv-loop fd shadow₀ left₀ shadow left = length shadow ≡ length shadow₀

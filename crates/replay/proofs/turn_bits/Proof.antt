@@ -1,16 +1,10 @@
 -- The bits left to turn fall. Assumes nothing.
-use Prim.Native.Nat.{_≤_, _-_}
+use Prim.Native.Nat.{_-_}
 use mathlib.Core.Path.{_≡_}
-use native.Mathlib.Omega.{arith}
 use borrow.Author.Needs.{needs}
 use lib.ListN.{length}
 use Rattle.replay.proofs.turn_bits.Statement.{statement}
 use Rattle.replay.proofs.turn_bits.Tie as tie
-use Rattle.replay.proofs.turn_bits.Reads as reads
-use Rattle.replay.proofs.turn_bits.Lts as lts
-use Rattle.replay.proofs.turn.Reads as turn-reads
-use Rattle.replay.proofs.wide.Reads as wide-reads
-use Rattle.replay.proofs.word.Reads as word-reads
 
 abbrev Inv-loop : tie.InvT-loop
 Inv-loop fd buffer₀ shadow₀ left₀ buffer shadow left = (length buffer ≡ length buffer₀) × (length shadow ≡ length shadow₀)

@@ -1,7 +1,6 @@
 -- `replaying::copy` meets its contract.
 use borrow.Author.Needs.{needs}
 use mathlib.Core.Path.{_∙_}
-use native.Mathlib.Omega.{arith}
 use Rattle.replaying.specs.Laws.{fits, over-is}
 use Rattle.replaying.proofs.copy.Statement.{statement}
 use Rattle.replaying.proofs.copy.Tie as tie

@@ -1,6 +1,6 @@
 -- `replaying::same` meets its contract.
 use Prim.Native.Nat.{_-_, _≤_}
-use lib.ListN.{drop, length}
+use lib.ListN.{drop}
 use mathlib.Core.Path.{_∙_, _≡_, refl, sym}
 use native.Mathlib.Omega.{arith}
 use Rattle.replaying.specs.Comparing.{sameBytes}

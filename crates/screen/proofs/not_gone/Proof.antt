@@ -6,10 +6,6 @@ use borrow.Author.Needs.{needs}
 use Rattle.screen.specs.Laws.{notGoneTo, none-yet, one-more, all-seen}
 use Rattle.screen.proofs.not_gone.Statement.{statement}
 use Rattle.screen.proofs.not_gone.Tie as tie
-use Rattle.screen.proofs.not_gone.Reads as reads
-use Rattle.screen.proofs.not_gone.Lts as lts
-use Rattle.reading.proofs.byte_of.Reads as byte-of-reads
-use Rattle.screen.proofs.present.Reads as present-reads
 
 abbrev Inv-loop : tie.InvT-loop
 Inv-loop it n sum₀ i₀ sum i = (i ≤ n) × (sum ≤ i) × (sum ≡ notGoneTo it i)

@@ -6,8 +6,6 @@ use borrow.Author.Tests.{eq-eqb, ne-eqb}
 use Rattle.model.specs.Finite.{digit}
 use Rattle.screen.proofs.present.Statement.{statement}
 use Rattle.screen.proofs.present.Tie as tie
-use Rattle.screen.proofs.present.Reads as reads
-use Rattle.screen.proofs.present.Lts as lts
 
 -- src/lib.rt:16:1
 returns : tie.Need-returns

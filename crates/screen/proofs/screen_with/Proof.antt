@@ -1,5 +1,5 @@
 -- The answers of the calls, by case. Assumes nothing.
-use mathlib.Core.Path.{_≡_, sym, ap, _∙_}
+use mathlib.Core.Path.{sym, ap, _∙_}
 use Rattle.model.specs.Numbers.{screenedAs, refusal}
 use Rattle.model.specs.Records.{records}
 use Rattle.model.specs.Scripts.{notGone}
@@ -9,12 +9,6 @@ use Rattle.screen.specs.Laws.{make-policy, made-done, made-refused, ran-
 use borrow.Author.Needs.{needs}
 use Rattle.screen.proofs.screen_with.Statement.{statement}
 use Rattle.screen.proofs.screen_with.Tie as tie
-use Rattle.screen.proofs.screen_with.Reads as reads
-use Rattle.screen.proofs.screen_with.Lts as lts
-use Rattle.analysis.proofs.make.Reads as make-reads
-use Rattle.calculus.proofs.run.Reads as run-reads
-use Rattle.reach.proofs.judge.Reads as judge-reads
-use Rattle.screen.proofs.not_gone.Reads as not-gone-reads
 
 -- src/lib.rt:50:11
 make-requires : tie.Need-make-requires

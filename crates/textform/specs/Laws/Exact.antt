@@ -9,7 +9,6 @@ use mathlib.Core.List.{List, [], _++_, _∷_}
 use mathlib.Core.Logic.{_≢_}
 use mathlib.Core.Option.{none, some}
 use mathlib.Core.Path.{_∙_, _≡_, ap, refl, sym}
-use native.Mathlib.Decide.{ℕ-discrete}
 use native.Mathlib.Omega.{arith}
 use Rattle.model.specs.Laws.Bytes.{records-encode}
 use Rattle.model.specs.Laws.WellFormed.{and-right}
@@ -20,7 +19,7 @@ use Rattle.textform.specs.Laws.Lines.{demand-good, digits-1, digits-2, d
 use Rattle.textform.specs.Laws.Nesting.{walk-placed}
 use Rattle.textform.specs.Laws.Scanning.{digit-inside, digit-low, numeral-cases}
 use Rattle.textform.specs.Lines.{ambientWord, inWord, kindWord, lineBytes, openWord, outWord, render}
-use Rattle.textform.specs.Reading.{before, digit, ended, labelled, lineRead, named, numeral, numeralOf, placed, scan, scanFrom, spaces, starts, unknownKind, worded}
+use Rattle.textform.specs.Reading.{before, digit, ended, labelled, lineRead, named, numeral, placed, scan, scanFrom, spaces, starts, unknownKind, worded}
 use Rattle.textform.specs.Writing.{textOf}
 use Rattle.textform.specs.declared.Line.{Line}
 use Rattle.textform.specs.declared.LineRead.{LineRead}
@@ -67,19 +66,19 @@ numeral-exact s =
     (λ p h. absurd (omega arith))
     (λ p u h. rw (digits-1 0 (omega arith)) (ap (λ n. n ∷ drop 1 s) (sym u) ∙ first-1 s (digit-inside s 0 p)))
     (λ p u q h.
-      rw (digits-1 (a - 48) (omega (arith, digit-high a p)))
-      (let e : 48 + (a - 48) ≡ a = omega (arith, digit-low a p) in rw e (first-1 s (digit-inside s 0 p))))
+    rw (digits-1 (a - 48) (omega (arith, digit-high a p)))
+    (let e : 48 + (a - 48) ≡ a = omega (arith, digit-low a p) in rw e (first-1 s (digit-inside s 0 p))))
     (λ p u q r h.
-      rw (digits-2 (10 * (a - 48) + (b - 48)) (omega (arith, digit-low a p)) (omega (arith, digit-high a p, digit-high b q)))
-      (let e : 48 + (10 * (a - 48) + (b - 48)) / 10 ≡ a = omega (arith, digit-low a p, digit-low b q, digit-high b q) in
-      let f : 48 + (10 * (a - 48) + (b - 48)) % 10 ≡ b = omega (arith, digit-low b q, digit-high b q) in
-      rw (e, f) (first-2 s (digit-inside s 1 q))))
+    rw (digits-2 (10 * (a - 48) + (b - 48)) (omega (arith, digit-low a p)) (omega (arith, digit-high a p, digit-high b q)))
+    (let e : 48 + (10 * (a - 48) + (b - 48)) / 10 ≡ a = omega (arith, digit-low a p, digit-low b q, digit-high b q) in
+    let f : 48 + (10 * (a - 48) + (b - 48)) % 10 ≡ b = omega (arith, digit-low b q, digit-high b q) in
+    rw (e, f) (first-2 s (digit-inside s 1 q))))
     (λ p u q r h.
-      rw (digits-3 (100 * (a - 48) + (10 * (b - 48) + (c - 48))) (omega (arith, digit-low a p)) (omega (arith, digit-high a p, digit-high b q, digit-high c r)))
-      (let e : 48 + (100 * (a - 48) + (10 * (b - 48) + (c - 48))) / 10 / 10 ≡ a = omega (arith, digit-low a p, digit-low b q, digit-high b q, digit-low c r, digit-high c r) in
-      let f : 48 + (100 * (a - 48) + (10 * (b - 48) + (c - 48))) / 10 % 10 ≡ b = omega (arith, digit-low b q, digit-high b q, digit-low c r, digit-high c r) in
-      let g : 48 + (100 * (a - 48) + (10 * (b - 48) + (c - 48))) % 10 ≡ c = omega (arith, digit-low c r, digit-high c r) in
-      rw (e, f, g) (first-3 s (digit-inside s 2 r))))
+    rw (digits-3 (100 * (a - 48) + (10 * (b - 48) + (c - 48))) (omega (arith, digit-low a p)) (omega (arith, digit-high a p, digit-high b q, digit-high c r)))
+    (let e : 48 + (100 * (a - 48) + (10 * (b - 48) + (c - 48))) / 10 / 10 ≡ a = omega (arith, digit-low a p, digit-low b q, digit-high b q, digit-low c r, digit-high c r) in
+    let f : 48 + (100 * (a - 48) + (10 * (b - 48) + (c - 48))) / 10 % 10 ≡ b = omega (arith, digit-low b q, digit-high b q, digit-low c r, digit-high c r) in
+    let g : 48 + (100 * (a - 48) + (10 * (b - 48) + (c - 48))) % 10 ≡ c = omega (arith, digit-low c r, digit-high c r) in
+    rw (e, f, g) (first-3 s (digit-inside s 2 r))))
   where
     a : ℕ
     a = byte s 0

@@ -17,7 +17,7 @@ use Rattle.model.specs.Laws.Sheet.{sheet-hidden, sheet-shown}
 use Rattle.model.specs.Numbers.{performedAs, refusal}
 use Rattle.model.specs.Observer.{sheet, sheetOf}
 use Rattle.model.specs.Records.{at, records}
-use Rattle.model.specs.Refusals.{Check, andThen, answer, content, need, pass, refuse}
+use Rattle.model.specs.Refusals.{Check, andThen, content, need, pass, refuse}
 use Rattle.model.specs.Tables.{suspects, tableRight}
 use Rattle.model.specs.Validity.{sizeRight, validity}
 use Rattle.model.specs.declared.Performed.{Performed}
