@@ -3,7 +3,7 @@ use Prim.Native.Nat.{_+_, _<_, ℕ}
 use mathlib.Core.Bool.{Bool, true}
 use mathlib.Core.Logic.{⊎-elim}
 use mathlib.Core.Path.{_≡_, fun-ext, subst, sym}
-use native.Mathlib.Nat.{eq-or-lt-of-le, le-of-suc-le-suc, not-suc-le-zero}
+use native.Mathlib.Nat.{eq-or-lt-of-le, le-of-suc-le-suc}
 use native.Mathlib.Numerals.{add-one}
 use Rattle.model.specs.Laws.Checks.{bool-iff}
 
@@ -52,25 +52,6 @@ unfolding Below
 below-step P n u f p x l =
     ⊎-elim (λ e. subst (λ (y : ℕ). P y u) (sym e) p) (λ m. f x m) (eq-or-lt-of-le (le-of-suc-le-suc (subst (λ (y : ℕ). x < y) (add-one n) l)))
 
-pub loop-none : {F : Set → Type 0} (P : ℕ → Set → Type 0) {s : Set} → Grown F (Below P 0) s s
-unfolding Below
-loop-none P = grown-none (λ x l. absurd (not-suc-le-zero l))
-
-pub loop-next : {F F₁ R₁ : Set → Type 0} (P : ℕ → Set → Type 0) (n : ℕ) {s s₁ s₂ : Set} → Grown F (Below P n) s s₁ → Grown F₁ R₁ s₁ s₂ →
-    ((u : Set) → Inside s₁ u → F u → F₁ u) → (s₁ ≡ s → R₁ s → P n s) → Grown F (Below P (n + 1)) s s₂
-loop-next P n {s} g h f r = chain g h f (λ e b r₁. below-step P n s b (r e r₁))
-
-pub loop-skip : {F : Set → Type 0} (P : ℕ → Set → Type 0) (n : ℕ) {s s₁ : Set} → Grown F (Below P n) s s₁ → (s₁ ≡ s → P n s) → Grown F (Below P (n + 1)) s s₁
-loop-skip P n {s} {s₁} g p = record {
-  keeps = g .keeps;
-  inside = g .inside;
-  done = λ b. below-step P n s (g .done b) (p (same b (g .keeps)));
-}
-
--- all n turns done, for an F that is P at each number below n
-pub loop-end : {F : Set → Type 0} (P : ℕ → Set → Type 0) (n k : ℕ) {s s₁ : Set} → k ≡ n → ((u : Set) → Below P n u → F u) → Grown F (Below P k) s s₁ → Grown F F s s₁
-loop-end {F} P n k {s} {s₁} e f g = recast (subst (λ (x : ℕ). Grown F (Below P x) s s₁) e g) (λ u i c. c) (f s)
-
 -- ---- the least set with F around s
 
 pub record Smallest (F : Set → Type 0) (s s′ : Set) : Type 0 where
@@ -84,15 +65,3 @@ any s = Unit {0}
 pub start : {F : Set → Type 0} (s : Set) → Grown F any s s
 unfolding any
 start s = grown-none tt
-
-pub on : {F : Set → Type 0} {s s₁ s₂ : Set} → Grown F any s s₁ → Grown F F s₁ s₂ → Grown F any s s₂
-unfolding any
-on g h = chain g h (λ u i c. c) (λ _ _ _. tt)
-
--- a step that adds nothing ends the search
-pub finish : {F : Set → Type 0} {s s₁ s₂ : Set} → Grown F any s s₁ → Grown F F s₁ s₂ → Inside s₂ s₁ → Smallest F s s₂
-finish {F} {s₁ = s₁} {s₂ = s₂} g h b = record {
-  keeps = λ j t. h .keeps j (g .keeps j t);
-  inside = λ u i c. let k : Inside s₁ u = g .inside u i c in h .inside u k c;
-  closed = subst F (same (h .keeps) b) (h .done b);
-}

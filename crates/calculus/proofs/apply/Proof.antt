@@ -15,43 +15,34 @@ Inv-loop it₀ m n i₀ it i = (i ≤ n) × (it ≡ written (update (remade m) (
 abbrev μ-loop : tie.MeasureT-loop
 μ-loop it₀ m n i₀ it i = n - i
 
--- src/lib.rt:194:13
 cast-n : tie.Need-cast-n Inv-loop μ-loop
 cast-n c = omega (arith, valid-few _ (c .before .pre))
 
--- src/lib.rt:196:5
 loop-holds : tie.Need-loop-holds Inv-loop μ-loop
 loop-holds c = (omega arith, written-none _ _)
 
--- src/lib.rt:197:23
 add-remake : tie.Need-add-remake Inv-loop μ-loop
 add-remake c = omega (arith, valid-few _ (c .before .before .before .before .pre))
 
--- src/lib.rt:197:9
 remake-requires : tie.Need-remake-requires Inv-loop μ-loop
 unfolding count
 remake-requires c κs = let e = pass-length _ _ _ _ _ (c .before .before .loop .inv .1) (omega arith) (omega arith) in
     (omega arith, omega arith, pass-whole _ _ _ _ (c .before .before .loop .inv .1) (λ j. omega (arith, c .before .before .before .slice-known .given j)) (c .before .before .before .before .pre) (omega arith))
 
--- src/lib.rt:198:9
 add-i : tie.Need-add-i Inv-loop μ-loop
 add-i c = omega (arith, valid-few _ (c .before .before .before .before .before .before .before .pre))
 
--- src/lib.rt:196:5
 loop-less : tie.Need-loop-less Inv-loop μ-loop
 loop-less c = omega arith
 
--- src/lib.rt:196:5
 loop-again : tie.Need-loop-again Inv-loop μ-loop
 unfolding count
 loop-again c = (omega arith, c .before .before .remake .ensures ∙ pass-next _ _ _ _ _ (c .before .before .before .before .before .loop .inv .1) (omega arith) _ _ (pass-read _ _ _ _ _ (c .before .before .before .before .before .loop .inv .1) (omega arith)) refl)
 
--- src/lib.rt:190:1
 same-length : tie.Need-same-length Inv-loop μ-loop
 unfolding count
 same-length c = pass-length _ _ _ _ _ (c .before .loop .inv .1) (omega arith) (omega arith)
 
--- src/lib.rt:190:1
 returns : tie.Need-returns Inv-loop μ-loop
 unfolding applied count
 returns c = pass-end _ _ _ _ _ (c .before .loop .inv .1) (omega arith) (omega (arith, valid-whole _ (c .before .before .before .pre)))

@@ -8,39 +8,30 @@ use borrow.Author.Needs.{needs}
 use Rattle.calculus.proofs.remake.Statement.{statement}
 use Rattle.calculus.proofs.remake.Tie as tie
 
--- src/lib.rt:181:9
 parent-of-requires : tie.Need-parent-of-requires
 parent-of-requires c κs = search needs
 
--- src/lib.rt:182:9
 touched-requires : tie.Need-touched-requires
 touched-requires c κs = search needs
 
--- src/lib.rt:183:9
 same-length : tie.Need-same-length
 same-length c = search needs
 
--- src/lib.rt:183:9
 returns : tie.Need-returns
 returns c = sym (c .before .before .before .before .before .pre .2) ∙ ap (withRecord _ _) (sym (untouched _ _ _ (ap (touchedBy _ _) (sym (c .before .before .parent-of .ensures)) ∙ sym (c .before .touched .ensures) ∙ not-true _ (c .if1 .taken))))
 
--- src/lib.rt:185:9
 record-at-requires : tie.Need-record-at-requires
 record-at-requires c κs = search needs
 
--- src/lib.rt:186:34
 remade-requires : tie.Need-remade-requires
 remade-requires c κs = search needs
 
--- src/lib.rt:186:5
 put-record-requires : tie.Need-put-record-requires
 put-record-requires c κs = search needs
 
--- src/lib.rt:177:1
 same-length-2 : tie.Need-same-length-2
 same-length-2 c = search needs
 
--- src/lib.rt:177:1
 returns-2 : tie.Need-returns-2
 returns-2 c = c .before .before .put-record .ensures ∙ ap (withRecord _ _) (c .before .before .before .remade .ensures ∙ ap (remade _ _) (c .before .before .before .before .before .record-at .ensures))
 

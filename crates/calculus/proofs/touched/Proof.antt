@@ -4,7 +4,6 @@ use mathlib.Core.Path.{refl}
 use Rattle.calculus.proofs.touched.Statement.{statement}
 use Rattle.calculus.proofs.touched.Tie as tie
 
--- src/lib.rt:170:1
 returns : tie.Need-returns
 unfolding touchedBy
 returns c = refl

@@ -1,4 +1,4 @@
--- A part that is lent has its length.
+-- `files::first` meets its contract. A part that is lent has its length.
 use borrow.Author.Needs.{needs}
 use lib.Seq.{length-take-le}
 use mathlib.Core.Path.{sym}

@@ -1,4 +1,4 @@
--- By the answer's case. Assumes nothing.
+-- `firmware::contained` meets its contract. By the answer's case.
 use mathlib.Core.Path.{sym, ap, _∙_}
 use Rattle.firmware.specs.Packing.{packed, single}
 use Rattle.model.specs.Numbers.{containedAs, refusal}
@@ -6,32 +6,25 @@ use borrow.Author.Needs.{needs}
 use Rattle.firmware.proofs.contained.Statement.{statement}
 use Rattle.firmware.proofs.contained.Tie as tie
 
--- src/lib.rt:77:25
 enum-known-c : tie.Need-enum-known-c
 enum-known-c c = search needs
 
--- src/lib.rt:77:40
 cast-done : tie.Need-cast-done
 cast-done c = search needs
 
--- src/lib.rt:77:35
 done-requires : tie.Need-done-requires
 done-requires c κs = search needs
 
--- src/lib.rt:78:28
 enum-known-c-2 : tie.Need-enum-known-c-2
 enum-known-c-2 c = search needs
 
--- src/lib.rt:78:34
 refused-requires : tie.Need-refused-requires
 refused-requires c κs = search needs
 
--- src/lib.rt:73:1
 returns : tie.Need-returns
 unfolding packed containedAs single
 returns c = c .done .ensures ∙ sym (ap (λ y. packed single (containedAs y)) (c .before .before .c .given .1))
 
--- src/lib.rt:73:1
 returns-2 : tie.Need-returns-2
 unfolding packed containedAs refusal
 returns-2 c = c .refused .ensures ∙ sym (ap (λ y. packed single (containedAs y)) (c .before .before .c2 .given .1))

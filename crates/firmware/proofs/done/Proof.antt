@@ -1,10 +1,9 @@
--- The fields are the values. Assumes nothing.
+-- `firmware::done` meets its contract. The fields are the values.
 use mathlib.Core.Path.{refl}
 use Rattle.firmware.specs.Packing.{values}
 use Rattle.firmware.proofs.done.Statement.{statement}
 use Rattle.firmware.proofs.done.Tie as tie
 
--- src/lib.rt:25:1
 returns : tie.Need-returns
 unfolding values
 returns c = refl

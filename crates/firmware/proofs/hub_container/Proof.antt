@@ -1,19 +1,16 @@
--- The call's contract, packed. Assumes nothing.
+-- `firmware::hub_container` meets its contract. The call's contract, packed.
 use mathlib.Core.Path.{ap, _∙_}
 use Rattle.firmware.specs.Packing.{packed, single}
 use borrow.Author.Needs.{needs}
 use Rattle.firmware.proofs.hub_container.Statement.{statement}
 use Rattle.firmware.proofs.hub_container.Tie as tie
 
--- src/lib.rt:104:15
 container-requires : tie.Need-container-requires
 container-requires c κs = search needs
 
--- src/lib.rt:104:5
 contained-requires : tie.Need-contained-requires
 contained-requires c κs = search needs
 
--- src/lib.rt:100:1
 returns : tie.Need-returns
 returns c = c .contained .ensures ∙ ap (packed single) (c .before .container .ensures)
 

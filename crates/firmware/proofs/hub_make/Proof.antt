@@ -1,23 +1,19 @@
--- The call's contract, packed. Assumes nothing.
+-- `firmware::hub_make` meets its contract. The call's contract, packed.
 use mathlib.Core.Path.{ap, _∙_}
 use Rattle.firmware.specs.Packing.{packed, single}
 use borrow.Author.Needs.{needs}
 use Rattle.firmware.proofs.hub_make.Statement.{statement}
 use Rattle.firmware.proofs.hub_make.Tie as tie
 
--- src/lib.rt:214:10
 make-requires : tie.Need-make-requires
 make-requires c κs = search needs
 
--- src/lib.rt:214:5
 made-requires : tie.Need-made-requires
 made-requires c κs = search needs
 
--- src/lib.rt:209:1
 same-length : tie.Need-same-length
 same-length c = search needs
 
--- src/lib.rt:209:1
 returns : tie.Need-returns
 returns c = (c .made .ensures ∙ ap (packed single) (c .before .before .before .make .ensures .0), c .before .before .before .make .ensures .1)
 

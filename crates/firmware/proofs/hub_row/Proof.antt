@@ -1,4 +1,4 @@
--- By the length of the row handed back. Assumes nothing.
+-- `firmware::hub_row` meets its contract. By the length of the row handed back.
 use Rattle.firmware.specs.Laws.{row-there, row-none}
 use lib.ListN.{length}
 use mathlib.Core.Path.{sym, ap, _∙_}
@@ -6,27 +6,21 @@ use borrow.Author.Needs.{needs}
 use Rattle.firmware.proofs.hub_row.Statement.{statement}
 use Rattle.firmware.proofs.hub_row.Tie as tie
 
--- src/lib.rt:231:9
 row-requires : tie.Need-row-requires
 row-requires c κs = search needs
 
--- src/lib.rt:233:21
 mul-done : tie.Need-mul-done
 mul-done c = search needs
 
--- src/lib.rt:233:9
 done-requires : tie.Need-done-requires
 done-requires c κs = search needs
 
--- src/lib.rt:233:9
 returns : tie.Need-returns
 returns c = c .done .ensures ∙ row-there _ _ (sym (ap length (c .before .before .row .ensures .0)) ∙ c .before .if1 .taken)
 
--- src/lib.rt:235:5
 done-requires-2 : tie.Need-done-requires-2
 done-requires-2 c κs = search needs
 
--- src/lib.rt:227:1
 returns-2 : tie.Need-returns-2
 returns-2 c = c .done2 .ensures ∙ row-none _ _ (λ e. c .before .if1 .left (ap length (c .before .before .row .ensures .0) ∙ e))
 

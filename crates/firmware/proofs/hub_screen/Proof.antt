@@ -1,27 +1,22 @@
--- The call's contract, packed. Assumes nothing.
+-- `firmware::hub_screen` meets its contract. The call's contract, packed.
 use mathlib.Core.Path.{ap, _∙_}
 use Rattle.firmware.specs.Packing.{packed, screens}
 use borrow.Author.Needs.{needs}
 use Rattle.firmware.proofs.hub_screen.Statement.{statement}
 use Rattle.firmware.proofs.hub_screen.Tie as tie
 
--- src/lib.rt:246:14
 screen-requires : tie.Need-screen-requires
 screen-requires c κs = search needs
 
--- src/lib.rt:246:5
 screened-requires : tie.Need-screened-requires
 screened-requires c κs = search needs
 
--- src/lib.rt:240:1
 same-length : tie.Need-same-length
 same-length c = search needs
 
--- src/lib.rt:240:1
 same-length-2 : tie.Need-same-length-2
 same-length-2 c = search needs
 
--- src/lib.rt:240:1
 returns : tie.Need-returns
 returns c = (c .screened .ensures ∙ ap (packed screens) (c .before .before .before .before .before .screen .ensures .0), c .before .before .before .before .before .screen .ensures .1, c .before .before .before .before .before .screen .ensures .2)
 

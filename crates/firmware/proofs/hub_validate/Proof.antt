@@ -1,19 +1,16 @@
--- The call's contract, packed. Assumes nothing.
+-- `firmware::hub_validate` meets its contract. The call's contract, packed.
 use mathlib.Core.Path.{ap, _∙_}
 use Rattle.firmware.specs.Packing.{packed, single}
 use borrow.Author.Needs.{needs}
 use Rattle.firmware.proofs.hub_validate.Statement.{statement}
 use Rattle.firmware.proofs.hub_validate.Tie as tie
 
--- src/lib.rt:96:15
 validate-requires : tie.Need-validate-requires
 validate-requires c κs = search needs
 
--- src/lib.rt:96:5
 validated-requires : tie.Need-validated-requires
 validated-requires c κs = search needs
 
--- src/lib.rt:92:1
 returns : tie.Need-returns
 returns c = c .validated .ensures ∙ ap (packed single) (c .before .validate .ensures)
 

@@ -1,19 +1,16 @@
--- The call's contract, packed. Assumes nothing.
+-- `firmware::hub_verdict` meets its contract. The call's contract, packed.
 use mathlib.Core.Path.{ap, _∙_}
 use Rattle.firmware.specs.Packing.{packed, verdicts}
 use borrow.Author.Needs.{needs}
 use Rattle.firmware.proofs.hub_verdict.Statement.{statement}
 use Rattle.firmware.proofs.hub_verdict.Tie as tie
 
--- src/lib.rt:222:12
 verdict-requires : tie.Need-verdict-requires
 verdict-requires c κs = search needs
 
--- src/lib.rt:222:5
 judged-requires : tie.Need-judged-requires
 judged-requires c κs = search needs
 
--- src/lib.rt:218:1
 returns : tie.Need-returns
 returns c = c .judged .ensures ∙ ap (packed verdicts) (c .before .verdict .ensures)
 

@@ -1,4 +1,4 @@
--- By the answer's case. Assumes nothing.
+-- `firmware::judged` meets its contract. By the answer's case.
 use mathlib.Core.Path.{sym, ap, ap₂, _∙_}
 use Rattle.firmware.specs.Packing.{packed, values, verdicts}
 use Rattle.model.specs.Numbers.{judgedAs, refusal}
@@ -6,40 +6,31 @@ use borrow.Author.Needs.{needs}
 use Rattle.firmware.proofs.judged.Statement.{statement}
 use Rattle.firmware.proofs.judged.Tie as tie
 
--- src/lib.rt:129:22
 enum-known-x : tie.Need-enum-known-x
 enum-known-x c = search needs
 
--- src/lib.rt:129:33
 verdict-code-requires : tie.Need-verdict-code-requires
 verdict-code-requires c κs = search needs
 
--- src/lib.rt:129:50
 verdict-label-requires : tie.Need-verdict-label-requires
 verdict-label-requires c κs = search needs
 
--- src/lib.rt:129:50
 cast-done : tie.Need-cast-done
 cast-done c = search needs
 
--- src/lib.rt:129:28
 done-requires : tie.Need-done-requires
 done-requires c κs = search needs
 
--- src/lib.rt:130:25
 enum-known-x-2 : tie.Need-enum-known-x-2
 enum-known-x-2 c = search needs
 
--- src/lib.rt:130:31
 refused-requires : tie.Need-refused-requires
 refused-requires c κs = search needs
 
--- src/lib.rt:125:1
 returns : tie.Need-returns
 unfolding packed judgedAs verdicts
 returns c = c .done .ensures ∙ ap₂ (λ a b. values a b 0 0 0 0) (c .before .before .verdict-code .ensures .0) (c .before .verdict-label .ensures) ∙ sym (ap (λ y. packed verdicts (judgedAs y)) (c .before .before .before .before .x .given .1))
 
--- src/lib.rt:125:1
 returns-2 : tie.Need-returns-2
 unfolding packed judgedAs refusal
 returns-2 c = c .refused .ensures ∙ sym (ap (λ y. packed verdicts (judgedAs y)) (c .before .before .x2 .given .1))

@@ -1,4 +1,4 @@
--- By the answer's case. Assumes nothing.
+-- `firmware::performed` meets its contract. By the answer's case.
 use mathlib.Core.Path.{sym, ap, _∙_}
 use Rattle.firmware.specs.Packing.{packed, bare}
 use Rattle.model.specs.Numbers.{performedAs, refusal}
@@ -6,28 +6,22 @@ use borrow.Author.Needs.{needs}
 use Rattle.firmware.proofs.performed.Statement.{statement}
 use Rattle.firmware.proofs.performed.Tie as tie
 
--- src/lib.rt:59:28
 enum-told : tie.Need-enum-told
 enum-told c = search needs
 
--- src/lib.rt:59:28
 done-requires : tie.Need-done-requires
 done-requires c κs = search needs
 
--- src/lib.rt:60:28
 enum-known-p : tie.Need-enum-known-p
 enum-known-p c = search needs
 
--- src/lib.rt:60:34
 refused-requires : tie.Need-refused-requires
 refused-requires c κs = search needs
 
--- src/lib.rt:55:1
 returns : tie.Need-returns
 unfolding packed performedAs bare
 returns c = c .done .ensures ∙ sym (ap (λ x. packed bare (performedAs x)) (c .before .enum-told .given .1))
 
--- src/lib.rt:55:1
 returns-2 : tie.Need-returns-2
 unfolding packed performedAs refusal
 returns-2 c = c .refused .ensures ∙ sym (ap (λ x. packed bare (performedAs x)) (c .before .before .p .given .1))

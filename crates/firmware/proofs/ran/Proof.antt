@@ -1,4 +1,4 @@
--- By the answer's case. Assumes nothing.
+-- `firmware::ran` meets its contract. By the answer's case.
 use mathlib.Core.Path.{sym, ap, _∙_}
 use Rattle.firmware.specs.Packing.{packed, counts}
 use Rattle.model.specs.Numbers.{ranAs, refusal}
@@ -6,28 +6,22 @@ use borrow.Author.Needs.{needs}
 use Rattle.firmware.proofs.ran.Statement.{statement}
 use Rattle.firmware.proofs.ran.Tie as tie
 
--- src/lib.rt:86:19
 enum-known-x : tie.Need-enum-known-x
 enum-known-x c = search needs
 
--- src/lib.rt:86:25
 done-requires : tie.Need-done-requires
 done-requires c κs = search needs
 
--- src/lib.rt:87:22
 enum-known-x-2 : tie.Need-enum-known-x-2
 enum-known-x-2 c = search needs
 
--- src/lib.rt:87:28
 refused-requires : tie.Need-refused-requires
 refused-requires c κs = search needs
 
--- src/lib.rt:82:1
 returns : tie.Need-returns
 unfolding packed ranAs counts
 returns c = c .done .ensures ∙ sym (ap (λ y. packed counts (ranAs y)) (c .before .before .x .given .1))
 
--- src/lib.rt:82:1
 returns-2 : tie.Need-returns-2
 unfolding packed ranAs refusal
 returns-2 c = c .refused .ensures ∙ sym (ap (λ y. packed counts (ranAs y)) (c .before .before .x2 .given .1))

@@ -1,15 +1,13 @@
--- The fields are the refusal. Assumes nothing.
+-- `firmware::refused` meets its contract. The fields are the refusal.
 use mathlib.Core.Path.{refl}
 use Rattle.firmware.specs.Packing.{refusalOf}
 use borrow.Author.Needs.{needs}
 use Rattle.firmware.proofs.refused.Statement.{statement}
 use Rattle.firmware.proofs.refused.Tie as tie
 
--- src/lib.rt:44:17
 cast-t2 : tie.Need-cast-t2
 cast-t2 c = search needs
 
--- src/lib.rt:40:1
 returns : tie.Need-returns
 unfolding refusalOf
 returns c = refl

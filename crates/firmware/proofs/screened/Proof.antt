@@ -1,4 +1,4 @@
--- By the answer's case. Assumes nothing.
+-- `firmware::screened` meets its contract. By the answer's case.
 use Rattle.firmware.specs.Laws.{screens-as}
 use Rattle.model.specs.Numbers.{screenedAs, refusal}
 use Rattle.firmware.specs.Packing.{packed, values, screens}
@@ -8,44 +8,34 @@ use borrow.Author.Needs.{needs}
 use Rattle.firmware.proofs.screened.Statement.{statement}
 use Rattle.firmware.proofs.screened.Tie as tie
 
--- src/lib.rt:138:24
 enum-known-x : tie.Need-enum-known-x
 enum-known-x c = search needs
 
--- src/lib.rt:144:27
 verdict-code-requires : tie.Need-verdict-code-requires
 verdict-code-requires c κs = search needs
 
--- src/lib.rt:144:21
 mul-t8 : tie.Need-mul-t8
 mul-t8 c = omega (arith, c .verdict-code .ensures .1)
 
--- src/lib.rt:144:46
 verdict-label-requires : tie.Need-verdict-label-requires
 verdict-label-requires c κs = search needs
 
--- src/lib.rt:144:46
 cast-t10 : tie.Need-cast-t10
 cast-t10 c = search needs
 
--- src/lib.rt:144:21
 add-t11 : tie.Need-add-t11
 add-t11 c = omega (arith, c .before .verdict-code .ensures .1)
 
--- src/lib.rt:152:27
 enum-known-x-2 : tie.Need-enum-known-x-2
 enum-known-x-2 c = search needs
 
--- src/lib.rt:152:33
 refused-requires : tie.Need-refused-requires
 refused-requires c κs = search needs
 
--- src/lib.rt:134:1
 returns : tie.Need-returns
 unfolding packed screenedAs screens values
 returns c = screens-as _ _ _ (c .before .verdict-code .ensures .0) (c .verdict-label .ensures) ∙ sym (ap (λ y. packed screens (screenedAs y)) (c .before .before .before .before .x .given .1))
 
--- src/lib.rt:134:1
 returns-2 : tie.Need-returns-2
 unfolding packed screenedAs refusal
 returns-2 c = c .refused .ensures ∙ sym (ap (λ y. packed screens (screenedAs y)) (c .before .before .x2 .given .1))

@@ -1,4 +1,4 @@
--- By the answer's case. Assumes nothing.
+-- `firmware::validated` meets its contract. By the answer's case.
 use mathlib.Core.Path.{sym, ap, _∙_}
 use Rattle.firmware.specs.Packing.{packed, single}
 use Rattle.model.specs.Numbers.{validatedAs, refusal}
@@ -6,28 +6,22 @@ use borrow.Author.Needs.{needs}
 use Rattle.firmware.proofs.validated.Statement.{statement}
 use Rattle.firmware.proofs.validated.Tie as tie
 
--- src/lib.rt:68:25
 enum-known-v : tie.Need-enum-known-v
 enum-known-v c = search needs
 
--- src/lib.rt:68:31
 done-requires : tie.Need-done-requires
 done-requires c κs = search needs
 
--- src/lib.rt:69:28
 enum-known-v-2 : tie.Need-enum-known-v-2
 enum-known-v-2 c = search needs
 
--- src/lib.rt:69:34
 refused-requires : tie.Need-refused-requires
 refused-requires c κs = search needs
 
--- src/lib.rt:64:1
 returns : tie.Need-returns
 unfolding packed validatedAs single
 returns c = c .done .ensures ∙ sym (ap (λ y. packed single (validatedAs y)) (c .before .before .v .given .1))
 
--- src/lib.rt:64:1
 returns-2 : tie.Need-returns-2
 unfolding packed validatedAs refusal
 returns-2 c = c .refused .ensures ∙ sym (ap (λ y. packed single (validatedAs y)) (c .before .before .v2 .given .1))

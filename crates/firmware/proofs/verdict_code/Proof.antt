@@ -1,4 +1,4 @@
--- By the verdict's case. Assumes nothing.
+-- `firmware::verdict_code` meets its contract. By the verdict's case.
 use Rattle.firmware.specs.Packing.{verdictCode}
 use native.Mathlib.Omega.{arith}
 use mathlib.Core.Path.{sym, ap}
@@ -6,29 +6,23 @@ use borrow.Author.Needs.{needs}
 use Rattle.firmware.proofs.verdict_code.Statement.{statement}
 use Rattle.firmware.proofs.verdict_code.Tie as tie
 
--- src/lib.rt:109:32
 enum-told : tie.Need-enum-told
 enum-told c = search needs
 
--- src/lib.rt:110:31
 enum-told-2 : tie.Need-enum-told-2
 enum-told-2 c = search needs
 
--- src/lib.rt:111:28
 enum-told-3 : tie.Need-enum-told-3
 enum-told-3 c = search needs
 
--- src/lib.rt:105:1
 returns : tie.Need-returns
 unfolding verdictCode
 returns c = (sym (ap verdictCode (c .enum-told .given .1)), omega arith)
 
--- src/lib.rt:105:1
 returns-2 : tie.Need-returns-2
 unfolding verdictCode
 returns-2 c = (sym (ap verdictCode (c .enum-told2 .given .1)), omega arith)
 
--- src/lib.rt:105:1
 returns-3 : tie.Need-returns-3
 unfolding verdictCode
 returns-3 c = (sym (ap verdictCode (c .enum-told3 .given .1)), omega arith)

@@ -1,33 +1,27 @@
--- By the verdict's case. Assumes nothing.
+-- `firmware::verdict_label` meets its contract. By the verdict's case.
 use mathlib.Core.Path.{sym, ap}
 use Rattle.model.specs.Verdicts.{labelOf}
 use borrow.Author.Needs.{needs}
 use Rattle.firmware.proofs.verdict_label.Statement.{statement}
 use Rattle.firmware.proofs.verdict_label.Tie as tie
 
--- src/lib.rt:119:26
 enum-known-v : tie.Need-enum-known-v
 enum-known-v c = search needs
 
--- src/lib.rt:120:25
 enum-known-v-2 : tie.Need-enum-known-v-2
 enum-known-v-2 c = search needs
 
--- src/lib.rt:121:28
 enum-told : tie.Need-enum-told
 enum-told c = search needs
 
--- src/lib.rt:115:1
 returns : tie.Need-returns
 unfolding labelOf
 returns c = sym (ap labelOf (c .before .v .given .1))
 
--- src/lib.rt:115:1
 returns-2 : tie.Need-returns-2
 unfolding labelOf
 returns-2 c = sym (ap labelOf (c .before .v2 .given .1))
 
--- src/lib.rt:115:1
 returns-3 : tie.Need-returns-3
 unfolding labelOf
 returns-3 c = sym (ap labelOf (c .enum-told .given .1))

@@ -1,4 +1,4 @@
--- The parts that are lent have their lengths. Assumes nothing.
+-- `hubscreen::screen_parts` meets its contract. The parts that are lent have their lengths.
 use mathlib.Core.Path.{sym}
 use lib.Seq.{length-take-le}
 use native.Mathlib.Omega.{arith}
@@ -6,99 +6,75 @@ use borrow.Author.Needs.{needs}
 use Rattle.hubscreen.proofs.screen_parts.Statement.{statement}
 use Rattle.hubscreen.proofs.screen_parts.Tie as tie
 
--- src/main.rt:157:9
 returns : tie.Need-returns
 returns c = search needs
 
--- src/main.rt:160:9
 returns-2 : tie.Need-returns-2
 returns-2 c = search needs
 
--- src/main.rt:163:9
 returns-3 : tie.Need-returns-3
 returns-3 c = search needs
 
--- src/main.rt:166:9
 returns-4 : tie.Need-returns-4
 returns-4 c = search needs
 
--- src/main.rt:168:26
 slice-relend-prefix-screen : tie.Need-slice-relend-prefix-screen
 slice-relend-prefix-screen c = search needs
 
--- src/main.rt:168:26
 slice-aggregate-screen : tie.Need-slice-aggregate-screen
 slice-aggregate-screen c = sym (length-take-le _ _ (omega arith))
 
--- src/main.rt:168:40
 slice-aggregate-screen-2 : tie.Need-slice-aggregate-screen-2
 slice-aggregate-screen-2 c = sym (length-take-le _ _ (omega arith))
 
--- src/main.rt:168:54
 slice-aggregate-screen-3 : tie.Need-slice-aggregate-screen-3
 slice-aggregate-screen-3 c = sym (length-take-le _ _ (omega arith))
 
--- src/main.rt:168:68
 slice-relend-prefix-screen-2 : tie.Need-slice-relend-prefix-screen-2
 slice-relend-prefix-screen-2 c = search needs
 
--- src/main.rt:168:68
 slice-aggregate-screen-4 : tie.Need-slice-aggregate-screen-4
 slice-aggregate-screen-4 c = sym (length-take-le _ _ (omega arith))
 
--- src/main.rt:168:11
 screen-requires : tie.Need-screen-requires
 screen-requires c κs = search needs
 
--- src/main.rt:169:27
 enum-known-r : tie.Need-enum-known-r
 enum-known-r c = search needs
 
--- src/main.rt:169:33
 show-refusal-requires : tie.Need-show-refusal-requires
 show-refusal-requires c κs = search needs
 
--- src/main.rt:170:24
 enum-known-s : tie.Need-enum-known-s
 enum-known-s c = search needs
 
--- src/main.rt:170:45
 slice-aggregate-show-screen : tie.Need-slice-aggregate-show-screen
 slice-aggregate-show-screen c = sym (length-take-le _ _ (omega arith))
 
--- src/main.rt:170:59
 slice-reshare-prefix-show-screen : tie.Need-slice-reshare-prefix-show-screen
 slice-reshare-prefix-show-screen c = search needs
 
--- src/main.rt:170:59
 slice-aggregate-show-screen-2 : tie.Need-slice-aggregate-show-screen-2
 slice-aggregate-show-screen-2 c = sym (length-take-le _ _ (omega arith))
 
--- src/main.rt:170:30
 show-screen-requires : tie.Need-show-screen-requires
 show-screen-requires c κs = search needs
 
--- src/main.rt:146:1
 same-length : tie.Need-same-length
 same-length c = search needs
 
--- src/main.rt:146:1
 same-length-2 : tie.Need-same-length-2
 same-length-2 c = search needs
 
--- src/main.rt:146:1
 returns-5 : tie.Need-returns-5
 returns-5 c = search needs
 
--- src/main.rt:146:1
 same-length-3 : tie.Need-same-length-3
 same-length-3 c = search needs
 
--- src/main.rt:146:1
 same-length-4 : tie.Need-same-length-4
 same-length-4 c = search needs
 
--- src/main.rt:146:1
 returns-6 : tie.Need-returns-6
 returns-6 c = search needs
 

@@ -1,4 +1,4 @@
--- The number of steps not yet shown falls. Assumes nothing.
+-- `hubscreen::show_steps` meets its contract. The number of steps not yet shown falls.
 use Prim.Native.Nat.{_≤_, _-_}
 use native.Mathlib.Omega.{arith}
 use Rattle.hubscreen.proofs.show_steps.Statement.{statement}
@@ -10,27 +10,21 @@ Inv-loop script answers n k₀ k = k ≤ n
 abbrev μ-loop : tie.MeasureT-loop
 μ-loop script answers n k₀ k = n - k
 
--- src/main.rt:119:5
 loop-holds : tie.Need-loop-holds Inv-loop μ-loop
 loop-holds c = omega arith
 
--- src/main.rt:120:9
 show-step-requires : tie.Need-show-step-requires Inv-loop μ-loop
 show-step-requires c κs = tt
 
--- src/main.rt:121:9
 add-k : tie.Need-add-k Inv-loop μ-loop
 add-k c = omega arith
 
--- src/main.rt:119:5
 loop-less : tie.Need-loop-less Inv-loop μ-loop
 loop-less c = omega arith
 
--- src/main.rt:119:5
 loop-again : tie.Need-loop-again Inv-loop μ-loop
 loop-again c = omega arith
 
--- src/main.rt:116:1
 returns : tie.Need-returns Inv-loop μ-loop
 returns c = omega arith
 

@@ -209,15 +209,6 @@ move-length cap-in its c b = simp (dissolve-length, place-length)
 move-length cap-out its c b = simp (dissolve-length, place-length)
 move-length cap-open its c b = simp dissolve-length
 
--- a step, done or refused, keeps well-formed records well-formed
-pub step-wf : (permit : Permit) {its : List Rec} → WellFormed its → (c b : ℕ) → WellFormed (step permit its c b)
-unfolding step effect
-step-wf permit {its} wf c b = go (outcome permit its c b) refl
-  where
-    go : (o : Outcome) → outcome permit its c b ≡ o → WellFormed (effect o its c b)
-    go (unmet n) e = wf
-    go (met k) e = move-wf wf k (outcome-done k e)
-
 -- on bytes: the records of the step are the step of the records
 pub step-records : (permit : Permit) (s : List ℕ) (c b : ℕ) → records (stepBytes permit s c b) ≡ step permit (records s) c b
 unfolding stepBytes rewritten step effect

@@ -15,7 +15,7 @@ use Rattle.model.specs.Laws.Checks.{and-make}
 use Rattle.model.specs.Laws.Containers.{container-small}
 use Rattle.model.specs.Laws.Finite.{every-make}
 use Rattle.model.specs.Laws.Holding.{Holds, Infects, Inside, Rule, holds-complete, holds-sound}
-use Rattle.model.specs.Laws.Sets.{Narrow, bits-bytes, bytes-bits, bytes-narrow, bytes-same, least-has, least-inside, length-bytes, numeral-lt, numeral-set}
+use Rattle.model.specs.Laws.Sets.{Narrow, bits-bytes, bytes-bits, bytes-same, least-has, least-inside, length-bytes, numeral-lt, numeral-set}
 use Rattle.model.specs.Laws.WellFormed.{WellFormed, amb-nested, label-pos, labels, named, small}
 use Rattle.model.specs.Least.{least, leastTable, numeral}
 use Rattle.model.specs.Records.{Capability, at, cap-in, cap-open, cap-out, capability}
@@ -209,10 +209,6 @@ module _ (permit : Permit) (policy : List ℕ) {its : List Rec} (wf : WellFormed
   pub least-table-length : length (leastTable permit policy its) ≡ 1544
   unfolding leastTable
   least-table-length = length-bytes (leastSet permit policy its) 1544
-
-  pub least-table-narrow : Narrow 8 (leastTable permit policy its)
-  unfolding leastTable
-  least-table-narrow = bytes-narrow (leastSet permit policy its) 1544
 
   pub least-table-right : tableRight (leastTable permit policy its) ≡ true
   unfolding tableRight tableSized placeI placeH

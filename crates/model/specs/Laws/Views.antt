@@ -59,17 +59,6 @@ module _ {A : Type 0} (v : View A) {its : List Rec} (wf : WellFormed its) where
   pub view-on : (i : ℕ) → i ≢ 0 → view v its i ≡ v .make (at its i) (view v its (parentOf its i))
   view-on = view-laws .on
 
--- a part of a view is a view
-pub view-map : {A B : Type 0} (v : View A) (w : View B) (h : A → B) → h (v .top) ≡ w .top → h (v .lost) ≡ w .lost → ((r : Rec) (x : A) → h (v .make r x) ≡ w .make r (h x)) → (its : List Rec) (i : ℕ) → h (view v its i) ≡ view w its i
-unfolding view viewFrom
-view-map v w h t l s its i = go (suc (length its)) i
-  where
-    go : (k i : ℕ) → h (viewFrom v its k i) ≡ viewFrom w its k i
-    go zero zero = t
-    go zero (suc i) = l
-    go (suc k) zero = t
-    go (suc k) (suc i) = s (at its (suc i)) _ ∙ ap (w .make (at its (suc i))) (go k (parentOf its (suc i)))
-
 -- climbing reaches the environment exactly from where there is a depth
 module _ (its : List Rec) where
   pub depth-reaches : {i d : ℕ} (k : ℕ) → Depth (parentOf its) i d → d ≤ k → viewFrom reaching its k i ≡ true

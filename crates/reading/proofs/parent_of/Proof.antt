@@ -5,35 +5,27 @@ use borrow.Author.Needs.{needs}
 use Rattle.reading.proofs.parent_of.Statement.{statement}
 use Rattle.reading.proofs.parent_of.Tie as tie
 
--- src/lib.rt:74:19
 sub-at : tie.Need-sub-at
 sub-at c = search needs
 
--- src/lib.rt:74:14
 mul-at : tie.Need-mul-at
 mul-at c = search needs
 
--- src/lib.rt:75:13
 add-word : tie.Need-add-word
 add-word c = search needs
 
--- src/lib.rt:75:10
 shared-slice-read-word : tie.Need-shared-slice-read-word
 shared-slice-read-word c = search needs
 
--- src/lib.rt:75:25
 add-word-2 : tie.Need-add-word-2
 add-word-2 c = search needs
 
--- src/lib.rt:75:22
 shared-slice-read-word-2 : tie.Need-shared-slice-read-word-2
 shared-slice-read-word-2 c = search needs
 
--- src/lib.rt:75:5
 word-requires : tie.Need-word-requires
 word-requires c κs = search needs
 
--- src/lib.rt:70:1
 returns : tie.Need-returns
 returns c = parent-direct _ _ _ (λ e. omega arith) (c .word .ensures)
 

@@ -1,4 +1,4 @@
--- The sum so far is the number of records seen that are not gone. Assumes nothing.
+-- `screen::not_gone` meets its contract. The sum so far is the number of records seen that are not gone.
 use Prim.Native.Nat.{_≤_, _-_}
 use mathlib.Core.Path.{_≡_}
 use native.Mathlib.Omega.{arith}
@@ -13,39 +13,30 @@ Inv-loop it n sum₀ i₀ sum i = (i ≤ n) × (sum ≤ i) × (sum ≡ notGoneTo
 abbrev μ-loop : tie.MeasureT-loop
 μ-loop it n sum₀ i₀ sum i = n - i
 
--- src/lib.rt:27:13
 cast-n : tie.Need-cast-n Inv-loop μ-loop
 cast-n c = search needs
 
--- src/lib.rt:30:5
 loop-holds : tie.Need-loop-holds Inv-loop μ-loop
 loop-holds c = (search needs, search needs, none-yet _)
 
--- src/lib.rt:31:47
 add-byte-of : tie.Need-add-byte-of Inv-loop μ-loop
 add-byte-of c = search needs
 
--- src/lib.rt:31:24
 byte-of-requires : tie.Need-byte-of-requires Inv-loop μ-loop
 byte-of-requires c κs = search needs
 
--- src/lib.rt:31:16
 present-requires : tie.Need-present-requires Inv-loop μ-loop
 present-requires c κs = search needs
 
--- src/lib.rt:31:9
 add-sum : tie.Need-add-sum Inv-loop μ-loop
 add-sum c = search needs
 
--- src/lib.rt:32:9
 add-i : tie.Need-add-i Inv-loop μ-loop
 add-i c = search needs
 
--- src/lib.rt:30:5
 loop-less : tie.Need-loop-less Inv-loop μ-loop
 loop-less c = search needs
 
--- src/lib.rt:30:5
 loop-again : tie.Need-loop-again Inv-loop μ-loop
 loop-again c = (
   search needs,
@@ -53,7 +44,6 @@ loop-again c = (
   one-more _ (c .before .before .before .before .before .pre .0) _ _ _ _ (c .before .before .before .loop .inv .2) (c .before .byte-of .ensures) (c .present .ensures .0),
 )
 
--- src/lib.rt:23:1
 returns : tie.Need-returns Inv-loop μ-loop
 returns c = all-seen _ _ _ (omega arith) (c .before .loop .inv .2)
 

@@ -1,4 +1,4 @@
--- By the test of the kind. Assumes nothing.
+-- `screen::present` meets its contract. By the test of the kind.
 use mathlib.Core.Path.{sym, ap}
 use mathlib.Core.Bool.{not}
 use native.Mathlib.Omega.{arith}
@@ -7,12 +7,10 @@ use Rattle.model.specs.Finite.{digit}
 use Rattle.screen.proofs.present.Statement.{statement}
 use Rattle.screen.proofs.present.Tie as tie
 
--- src/lib.rt:16:1
 returns : tie.Need-returns
 unfolding digit
 returns c = (sym (ap (λ b. digit (not b)) (eq-eqb _ _ (c .if1 .taken))), omega arith)
 
--- src/lib.rt:16:1
 returns-2 : tie.Need-returns-2
 unfolding digit
 returns-2 c = (sym (ap (λ b. digit (not b)) (ne-eqb _ _ (c .if1 .left))), omega arith)

@@ -1,4 +1,4 @@
--- The answers of the calls, by case. Assumes nothing.
+-- `screen::screen_with` meets its contract. The answers of the calls, by case.
 use mathlib.Core.Path.{sym, ap, _∙_}
 use Rattle.model.specs.Numbers.{screenedAs, refusal}
 use Rattle.model.specs.Records.{records}
@@ -10,65 +10,50 @@ use borrow.Author.Needs.{needs}
 use Rattle.screen.proofs.screen_with.Statement.{statement}
 use Rattle.screen.proofs.screen_with.Tie as tie
 
--- src/lib.rt:50:11
 make-requires : tie.Need-make-requires
 make-requires c κs = search needs
 
--- src/lib.rt:51:23
 enum-known-r : tie.Need-enum-known-r
 enum-known-r c = search needs
 
--- src/lib.rt:52:20
 enum-known-ones : tie.Need-enum-known-ones
 enum-known-ones c = search needs
 
--- src/lib.rt:53:17
 judge-requires : tie.Need-judge-requires
 judge-requires c κs = (search needs, make-policy _ _ _ _ (made-done (c .before .before .before .before .before .before .make .ensures .0) (c .before .before .ones .given .1)))
 
--- src/lib.rt:54:19
 run-requires : tie.Need-run-requires
 run-requires c κs = search needs
 
--- src/lib.rt:55:30
 enum-known-r-2 : tie.Need-enum-known-r-2
 enum-known-r-2 c = search needs
 
--- src/lib.rt:56:27
 enum-known-counts : tie.Need-enum-known-counts
 enum-known-counts c = search needs
 
--- src/lib.rt:60:27
 not-gone-requires : tie.Need-not-gone-requires
 not-gone-requires c κs = rw (c .before .before .before .before .before .before .before .before .run .ensures .1) (run-sized _ _ _ _ (ran-done (c .before .before .before .before .before .before .before .before .run .ensures .0) (c .before .before .counts .given .1)))
 
--- src/lib.rt:38:1
 same-length : tie.Need-same-length
 same-length c = search needs
 
--- src/lib.rt:38:1
 same-length-2 : tie.Need-same-length-2
 same-length-2 c = search needs
 
--- src/lib.rt:38:1
 returns : tie.Need-returns
 unfolding screenedAs refusal
 returns c = let w = make-refuses _ _ _ _ _ (c .before .before .before .before .before .before .before .before .before .before .before .before .before .pre) _ _ (made-refused (c .before .before .before .before .before .make .ensures .0) (c .before .r .given .1)) in
     (sym (w .returned), sym (w .itinerary), sym (w .answered))
 
--- src/lib.rt:38:1
 same-length-3 : tie.Need-same-length-3
 same-length-3 c = search needs
 
--- src/lib.rt:38:1
 same-length-4 : tie.Need-same-length-4
 same-length-4 c = search needs
 
--- src/lib.rt:38:1
 same-length-5 : tie.Need-same-length-5
 same-length-5 c = search needs
 
--- src/lib.rt:38:1
 returns-2 : tie.Need-returns-2
 unfolding screenedAs refusal
 returns-2 c = let m = made-done (c .before .before .before .before .before .before .before .before .before .before .before .before .before .before .before .before .before .make .ensures .0) (c .before .before .before .before .before .before .before .before .before .before .before .before .before .ones .given .1) in
@@ -76,19 +61,15 @@ returns-2 c = let m = made-done (c .before .before .before .before .before .befo
     let k = run-leaves _ _ _ _ _ (c .before .before .before .before .before .before .before .before .before .before .before .before .before .before .before .before .before .before .before .before .before .before .before .before .before .pre) _ m in
     (sym (w .returned), c .before .before .before .before .before .before .before .run .ensures .1 ∙ sym (k .0), c .before .before .before .before .before .before .before .run .ensures .2 ∙ sym (k .1))
 
--- src/lib.rt:38:1
 same-length-6 : tie.Need-same-length-6
 same-length-6 c = search needs
 
--- src/lib.rt:38:1
 same-length-7 : tie.Need-same-length-7
 same-length-7 c = search needs
 
--- src/lib.rt:38:1
 same-length-8 : tie.Need-same-length-8
 same-length-8 c = search needs
 
--- src/lib.rt:38:1
 returns-3 : tie.Need-returns-3
 unfolding screenedAs
 returns-3 c = let m = made-done (c .before .before .before .before .before .before .before .before .before .before .before .before .before .before .before .before .before .before .before .make .ensures .0) (c .before .before .before .before .before .before .before .before .before .before .before .before .before .before .before .ones .given .1) in
