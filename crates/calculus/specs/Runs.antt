@@ -1,12 +1,11 @@
 -- Laws of a script run, step by step.
-use Prim.Native.Nat.{_%_, _*_, _+_, _/_, _<_, _≤_, suc, zero, ℕ}
+use Prim.Native.Nat.{_%_, _*_, _+_, _/_, _<_, _≤_, suc, ℕ}
 use borrow.Author.Tests.{eqb-true, leb-true, ne-eqb}
 use lib.Dec.{eqb, leb}
 use lib.ListN.{drop, drop-of-length-le, length, length-append, length-drop, set, take}
 use lib.Seq.{drop-cons, length-take-le, set-at, take-all, take-suc}
 use mathlib.Core.Bool.{Bool, _&&_, false, true}
 use mathlib.Core.List.{List, [], _++_, _∷_, append-assoc, append-nil}
-use mathlib.Core.Option.{some}
 use mathlib.Core.Path.{_∙_, _≡_, ap, refl, sym}
 use native.Mathlib.Nat.{zero-add}
 use native.Mathlib.Omega.{arith}
@@ -16,12 +15,12 @@ use Rattle.model.specs.Calls.{runAfter, runAnswer, runAnswers, running}
 use Rattle.model.specs.Finite.{digit}
 use Rattle.model.specs.Laws.Bytes.{at-whole}
 use Rattle.model.specs.Laws.Checks.{need-make}
-use Rattle.model.specs.Laws.Done.{list-valid, outcome-done}
+use Rattle.model.specs.Laws.Done.{kind-of, list-valid, outcome-done}
 use Rattle.model.specs.Laws.Finite.{getD-tabulate, length-tabulate}
 use Rattle.model.specs.Laws.Lists.{answers-append, list-append}
 use Rattle.model.specs.Laws.WellFormed.{and-left, and-right}
 use Rattle.model.specs.Numbers.{refusal}
-use Rattle.model.specs.Records.{Capability, at, byte, byteOf, cap-in, cap-open, cap-out, capability, decode, records, word}
+use Rattle.model.specs.Records.{at, byte, byteOf, decode, records, word}
 use Rattle.model.specs.Refusals.{done, pass, refuse}
 use Rattle.model.specs.Scripts.{Step, afterList, answersOf, countsOf, doneBy, howMany, kindOf, stepIn, stepsIn, outcomes, scriptRight}
 use Rattle.model.specs.Steps.{Outcome, answerOf, met, outcome, stepBytes, unmet}
@@ -54,16 +53,6 @@ unfolding stepsIn
 next-order z k l =
     let e : k + 1 ≡ suc k = omega arith in
     ap (λ j. take j (stepsIn z)) e ∙ take-suc (stepsIn z) k (stepIn z 0) (omega (arith, length-orders z)) ∙ ap (λ m. take k (stepsIn z) ++ (m ∷ [])) (getD-tabulate (stepIn z) 0 (length z / 4) k (stepIn z 0) l ∙ ap (stepIn z) (zero-add k))
-
--- the kind of a capability
-kind-of : (n : ℕ) (k : Capability) → capability n ≡ some k → n ≡ kindOf k
-unfolding capability kindOf
-kind-of zero k h = let u : _≡_ {A = ℕ} 0 1 = cc in absurd (omega arith)
-kind-of (suc zero) k h = let u : _≡_ {A = ℕ} 0 1 = cc in absurd (omega arith)
-kind-of (suc (suc zero)) k h = let u : cap-in ≡ k = cc in ap kindOf u
-kind-of (suc (suc (suc zero))) k h = let u : cap-out ≡ k = cc in ap kindOf u
-kind-of (suc (suc (suc (suc zero)))) k h = let u : cap-open ≡ k = cc in ap kindOf u
-kind-of (suc (suc (suc (suc (suc n))))) k h = let u : _≡_ {A = ℕ} 0 1 = cc in absurd (omega arith)
 
 digit-elim : (b : Bool) → elim b [ true ↦ 1 | false ↦ 0 ] ≡ digit b
 unfolding digit

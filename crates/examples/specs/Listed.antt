@@ -16,7 +16,7 @@ use Rattle.model.specs.Climbing.{ambientAnd, hides, isSuspect, labelled, reache
 use Rattle.model.specs.Finite.{digit, every, lowest, someOf, tabulate, tally}
 use Rattle.model.specs.Laws.Bit.{zero-bit}
 use Rattle.model.specs.Laws.Bytes.{valid-wf}
-use Rattle.model.specs.Laws.Checks.{answer-done, need-make, then-make}
+use Rattle.model.specs.Laws.Checks.{answer-done, beq-eq, need-make, then-make}
 use Rattle.model.specs.Laws.Finite.{every-use}
 use Rattle.model.specs.Laws.Holding.{Holds, holds-sound}
 use Rattle.model.specs.Laws.Least.{least-table-is}
@@ -131,13 +131,7 @@ module _ {s policy xs : List ℕ} {ones : ℕ} {verdict : Verdict} (w : Listed s
   unfolding Meets
   listed-suspects labels h k l =
       ap (λ t. bits t (placeS k)) (made-is ∙ table-is) ∙ ap (λ u. u (placeS k)) (bits-listed xs (w .small))
-      ∙ same _ _ (every-use (λ j. true) (λ j. Bool·beq (isIn xs (placeS j)) (isIn labels j)) 64 h k l refl)
-    where
-      same : (a b : Bool) → Bool·beq a b ≡ true → a ≡ b
-      same true true e = refl
-      same true false e = absurd (true≢false (sym e))
-      same false true e = absurd (true≢false (sym e))
-      same false false e = refl
+      ∙ beq-eq _ _ (every-use (λ j. true) (λ j. Bool·beq (isIn xs (placeS j)) (isIn labels j)) 64 h k l refl)
 
   -- what the screen returns where its script is right
   pub listed-screen : (z answers : List ℕ) → scriptRight z (length answers) ≡ true →

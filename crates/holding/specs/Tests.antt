@@ -5,7 +5,7 @@ use mathlib.Core.Bool.{Bool, _&&_, true}
 use mathlib.Core.List.{List}
 use mathlib.Core.Path.{_≡_}
 use Rattle.closure.specs.Rules.{I, S}
-use Rattle.model.specs.Analysis.{onlyIf}
+use Rattle.model.specs.Analysis.{infects, onlyIf, rowInside}
 use Rattle.model.specs.Climbing.{container}
 use Rattle.model.specs.Finite.{every}
 use Rattle.model.specs.Records.{at, isAmbient}
@@ -39,7 +39,7 @@ Opening p b u = ((k : ℕ) → k < 128 → I u b k → I u p k) × (S u b → S 
 
 -- and its test
 unfoldable pub openHolds : Table → ℕ → ℕ → Bool
-openHolds T p b = every 128 (λ k. T .I b k) (λ k. T .I p k) && onlyIf (T .S b) (T .S p)
+openHolds T p b = rowInside T b p && infects T b p
 
 -- those of all three
 pub record Pair (m : List ℕ) (p b : ℕ) (u : Set) : Type 0 where

@@ -1,5 +1,5 @@
 -- The folded rules hold exactly where the rules of all capability records do.
-use Prim.Native.Nat.{_%_, _*_, _+_, _-_, _/_, _<_, _≤_, suc, zero, ℕ}
+use Prim.Native.Nat.{_%_, _*_, _+_, _-_, _/_, _<_, _≤_, zero, ℕ}
 use borrow.Author.Tests.{le-leb, leb-true, ne-eqb}
 use lib.Dec.{leb}
 use lib.ListN.{getD, length}
@@ -13,6 +13,8 @@ use native.Mathlib.Omega.{arith}
 use Rattle.closure.specs.Adds.{Adds, Transposed, adds-as, adds-none, adds-or, transposed-bit}
 use Rattle.closure.specs.Cells.{Bits, at-word, below-64, orAt}
 use Rattle.closure.specs.Rules.{Closed}
+use Rattle.model.specs.Laws.Done.{kind-of}
+use Rattle.model.specs.Scripts.{kindOf}
 use Rattle.model.specs.Analysis.{free}
 use Rattle.model.specs.Laws.Bit.{zero-bit}
 use Rattle.model.specs.Laws.Bytes.{at-decode, shape-kind, valid-wf}
@@ -114,31 +116,11 @@ module _ {its : List Rec} (wf : WellFormed its) (w z bearers : List ℕ) (zero :
 
 -- ---- the rules
 
-unfoldable pub kindOf : Capability → ℕ
-kindOf cap-in = 2
-kindOf cap-out = 3
-kindOf cap-open = 4
-
-pub cap-kind : (x : ℕ) (k : Capability) → capability x ≡ some k → x ≡ kindOf k
-unfolding capability kindOf
-cap-kind zero k e = let u : _≡_ {A = ℕ} 0 1 = cc in absurd (omega arith)
-cap-kind (suc zero) k e = let u : _≡_ {A = ℕ} 0 1 = cc in absurd (omega arith)
-cap-kind (suc (suc zero)) cap-in e = refl
-cap-kind (suc (suc zero)) cap-out e = let u : _≡_ {A = ℕ} 0 1 = cc in absurd (omega arith)
-cap-kind (suc (suc zero)) cap-open e = let u : _≡_ {A = ℕ} 0 1 = cc in absurd (omega arith)
-cap-kind (suc (suc (suc zero))) cap-in e = let u : _≡_ {A = ℕ} 0 1 = cc in absurd (omega arith)
-cap-kind (suc (suc (suc zero))) cap-out e = refl
-cap-kind (suc (suc (suc zero))) cap-open e = let u : _≡_ {A = ℕ} 0 1 = cc in absurd (omega arith)
-cap-kind (suc (suc (suc (suc zero)))) cap-in e = let u : _≡_ {A = ℕ} 0 1 = cc in absurd (omega arith)
-cap-kind (suc (suc (suc (suc zero)))) cap-out e = let u : _≡_ {A = ℕ} 0 1 = cc in absurd (omega arith)
-cap-kind (suc (suc (suc (suc zero)))) cap-open e = refl
-cap-kind (suc (suc (suc (suc (suc x))))) k e = let u : _≡_ {A = ℕ} 0 1 = cc in absurd (omega arith)
-
 pub cap-two : (x : ℕ) (k : Capability) → capability x ≡ some k → 2 ≤ x
 unfolding kindOf
-cap-two x cap-in e = let q = cap-kind x cap-in e in omega arith
-cap-two x cap-out e = let q = cap-kind x cap-out e in omega arith
-cap-two x cap-open e = let q = cap-kind x cap-open e in omega arith
+cap-two x cap-in e = let q = kind-of x cap-in e in omega arith
+cap-two x cap-out e = let q = kind-of x cap-out e in omega arith
+cap-two x cap-open e = let q = kind-of x cap-open e in omega arith
 
 pub kind-cap : (x : ℕ) (k : Capability) → x ≡ kindOf k → capability x ≡ some k
 unfolding capability kindOf
@@ -186,9 +168,9 @@ module _ {its : List Rec} (wf : WellFormed its) (H : ℕ → ℕ → Bool) (n : 
       bears i b q lb h = F .has j i b l (record { capable = two; here = q; below = lb; names = sub b (at its j .name) lb (able .name) h })
 
       go : (k : Capability) → capability (at its j .kind) ≡ some k → RuleOf its u k j
-      go cap-in q = λ a b x la lb lx may ia ixa ixb hb. let k = cap-kind _ cap-in q in C .ins t a b x below la lb lx (stands a ia) ixa ixb (bears t b (omega arith) lb hb)
-      go cap-out q = λ a b x la lb lx may ia iba ixb hb. let k = cap-kind _ cap-out q in C .outs t a b x below la lb lx (stands a ia) iba ixb (bears (64 + t) b (omega arith) lb hb)
-      go cap-open q = λ b x lb lx may ix ixb hb. let k = cap-kind _ cap-open q in C .opens t b x below lb lx (stands x ix) ixb (bears (128 + t) b (omega arith) lb hb)
+      go cap-in q = λ a b x la lb lx may ia ixa ixb hb. let k = kind-of _ cap-in q in C .ins t a b x below la lb lx (stands a ia) ixa ixb (bears t b (omega arith) lb hb)
+      go cap-out q = λ a b x la lb lx may ia iba ixb hb. let k = kind-of _ cap-out q in C .outs t a b x below la lb lx (stands a ia) iba ixb (bears (64 + t) b (omega arith) lb hb)
+      go cap-open q = λ b x lb lx may ix ixb hb. let k = kind-of _ cap-open q in C .opens t b x below lb lx (stands x ix) ixb (bears (128 + t) b (omega arith) lb hb)
 
   -- the rules of all records give those of the words
   pub rules-closed : ((b x : ℕ) → b < 64 → x < 64 → H b x ≡ true → parts u .H b x ≡ true) →

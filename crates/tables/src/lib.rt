@@ -68,6 +68,7 @@ pub fn table_right(table: &[u8]) -> bool
 // The row of a label as that very part of the lent table; the empty part for any other label or length.
 pub fn row<'a>(table: &'a [u8], label: u8) -> &'a [u8]
     ensures { λ r. ⌜ now r ≡ rowOf (now (table .entry)) label ⌝ }
+    ensures { λ r. ⌜ r .ptr .0 ≡ table .entry .ptr .0 ⌝ }
     ensures { λ r. ⌜ r .ptr .1 ≡ table .entry .ptr .1 + rowStart (now (table .entry)) label ⌝ }
 {
     if table.len() != 1544 {

@@ -2,7 +2,7 @@
 use Prim.Native.Nat.{_+_, _<_, _≤_, suc, zero, ℕ}
 use borrow.Author.Tests.{eqb-true}
 use lib.ListN.{length}
-use mathlib.Core.Bool.{Bool, _&&_, _||_, false, true, true≢false}
+use mathlib.Core.Bool.{Bool, Bool·beq, _&&_, _||_, false, true, true≢false}
 use mathlib.Core.List.{List}
 use mathlib.Core.Path.{_≡_, refl, sym}
 use native.Mathlib.Decide.{ℕ-discrete}
@@ -82,6 +82,12 @@ pub bool-iff : (a b : Bool) → (a ≡ true → b ≡ true) → (b ≡ true → 
 bool-iff true b f g = sym (f refl)
 bool-iff false true f g = g refl
 bool-iff false false f g = refl
+
+pub beq-eq : (a b : Bool) → Bool·beq a b ≡ true → a ≡ b
+beq-eq true true h = refl
+beq-eq true false h = absurd (true≢false (sym h))
+beq-eq false true h = absurd (true≢false (sym h))
+beq-eq false false h = refl
 
 -- a table that 8 lets through is 1,544 bytes long
 pub table-length : (table : List ℕ) → tableRight table ≡ true → length table ≡ 1544

@@ -7,7 +7,7 @@ use mathlib.Core.Bool.{Bool, _&&_, false, not, true, true≢false}
 use mathlib.Core.List.{List, [], _∷_}
 use mathlib.Core.Logic.{_≢_}
 use mathlib.Core.Option.{Option, none, some}
-use mathlib.Core.Path.{_∙_, _≡_, refl, subst, sym}
+use mathlib.Core.Path.{_∙_, _≡_, ap, refl, subst, sym}
 use native.Mathlib.Omega.{arith}
 use Rattle.model.specs.Analysis.{Permit}
 use Rattle.model.specs.Laws.Bytes.{length-records, passed, records-encode, size-le, valid-wf, wf-valid}
@@ -16,7 +16,7 @@ use Rattle.model.specs.Laws.Updates.{dissolve-length, place-length}
 use Rattle.model.specs.Laws.WellFormed.{Alive, SameBut, WellFormed, alive-pos, and-left, and-right, dissolve-same, dissolve-wf, place-high, place-parent-other, place-same, place-wf}
 use Rattle.model.specs.Records.{Capability, at, cap-in, cap-open, cap-out, capability, count, isAmbient, nested, parentOf, records}
 use Rattle.model.specs.Refusals.{pass}
-use Rattle.model.specs.Scripts.{Step, afterList}
+use Rattle.model.specs.Scripts.{Step, afterList, kindOf}
 use Rattle.model.specs.Steps.{Outcome, decide, dissolve, effect, fit, met, move, outcome, outcomeBy, place, ready, rewritten, stands, step, stepBytes, unmet}
 use Rattle.model.specs.Validity.{validity}
 use Rattle.model.specs.declared.Rec.{Rec}
@@ -202,6 +202,16 @@ module _ {permit : Permit} {its : List Rec} (wf : WellFormed its) {c b : ℕ} wh
 
   pub move-wf : (k : Capability) → Done permit k its c b → WellFormed (move k its c b)
   move-wf k d = rw (move-first k its c b) (dissolve-wf (first-wf k d) c (cap-pos k d))
+
+-- the kind of a capability
+pub kind-of : (n : ℕ) (k : Capability) → capability n ≡ some k → n ≡ kindOf k
+unfolding capability kindOf
+kind-of zero k h = let u : _≡_ {A = ℕ} 0 1 = cc in absurd (omega arith)
+kind-of (suc zero) k h = let u : _≡_ {A = ℕ} 0 1 = cc in absurd (omega arith)
+kind-of (suc (suc zero)) k h = let u : cap-in ≡ k = cc in ap kindOf u
+kind-of (suc (suc (suc zero))) k h = let u : cap-out ≡ k = cc in ap kindOf u
+kind-of (suc (suc (suc (suc zero)))) k h = let u : cap-open ≡ k = cc in ap kindOf u
+kind-of (suc (suc (suc (suc (suc n))))) k h = let u : _≡_ {A = ℕ} 0 1 = cc in absurd (omega arith)
 
 pub move-length : (k : Capability) (its : List Rec) (c b : ℕ) → length (move k its c b) ≡ length its
 unfolding move

@@ -11,7 +11,7 @@ use mathlib.Core.Path.{_∙_, _≡_, ap, refl, sym}
 use native.Mathlib.Omega.{arith}
 use Rattle.model.specs.Analysis.{Permit, holds}
 use Rattle.model.specs.Climbing.{container}
-use Rattle.model.specs.Laws.Checks.{and-make}
+use Rattle.model.specs.Laws.Checks.{and-make, bool-iff}
 use Rattle.model.specs.Laws.Containers.{container-small}
 use Rattle.model.specs.Laws.Finite.{every-make}
 use Rattle.model.specs.Laws.Holding.{Holds, Infects, Inside, Rule, holds-complete, holds-sound}
@@ -138,15 +138,10 @@ module _ (permit : Permit) (policy : List ℕ) {its : List Rec} (wf : WellFormed
   pub least-table-is : (t : List ℕ) → length t ≡ 1544 → Narrow 8 t → Holds permit policy its (parts (bits t)) →
       ((u : ℕ → Bool) → Holds permit policy its (parts u) → (j : ℕ) → j < 12352 → bits t j ≡ true → u j ≡ true) → t ≡ leastTable permit policy its
   unfolding leastTable
-  least-table-is t e small h f = bytes-bits 1544 t e small ∙ bytes-same 1544 (bits t) (leastSet permit policy its) (λ j l. both _ _ (up j (omega arith)) (least-below (bits t) h j (omega arith)))
+  least-table-is t e small h f = bytes-bits 1544 t e small ∙ bytes-same 1544 (bits t) (leastSet permit policy its) (λ j l. bool-iff _ _ (up j (omega arith)) (least-below (bits t) h j (omega arith)))
     where
       up : (j : ℕ) → j < 12352 → bits t j ≡ true → leastSet permit policy its j ≡ true
       up j l b = from-least permit policy its j (λ c _ g. f (testBit c) (fits-in permit policy its c g) j l b)
-
-      both : (a b : Bool) → (a ≡ true → b ≡ true) → (b ≡ true → a ≡ true) → a ≡ b
-      both true b p q = sym (p refl)
-      both false true p q = absurd (true≢false (sym (q refl)))
-      both false false p q = refl
 
 -- ---- the largest table of the right form holds, so the least table has the right form
 unfoldable pub widest : ℕ → Bool

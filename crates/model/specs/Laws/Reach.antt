@@ -9,7 +9,7 @@ use mathlib.Core.Path.{_∙_, _≡_, ap, refl, subst, sym}
 use native.Mathlib.Nat.{zero-add}
 use native.Mathlib.Omega.{arith}
 use Rattle.model.specs.Finite.{tabulate}
-use Rattle.model.specs.Laws.Checks.{or-cases, or-right}
+use Rattle.model.specs.Laws.Checks.{beq-eq, or-cases, or-right}
 use Rattle.model.specs.Laws.Finite.{getD-tabulate, length-tabulate, someOf-make, someOf-use}
 use Rattle.model.specs.Laws.WellFormed.{and-left, and-right}
 use Rattle.model.specs.Verdicts.{alike, growing, grown, joins, marked, reached}
@@ -43,12 +43,6 @@ alike-marked [] [] e l k = refl
 alike-marked [] (y ∷ ys) e l k = absurd (omega arith)
 alike-marked (x ∷ xs) [] e l k = absurd (omega arith)
 alike-marked (x ∷ xs) (y ∷ ys) e l zero = beq-eq x y (and-left _ _ e)
-  where
-    beq-eq : (a b : Bool) → Bool·beq a b ≡ true → a ≡ b
-    beq-eq true true h = refl
-    beq-eq true false h = absurd (true≢false (sym h))
-    beq-eq false true h = absurd (true≢false (sym h))
-    beq-eq false false h = refl
 alike-marked (x ∷ xs) (y ∷ ys) e l (suc k) = alike-marked xs ys (and-right (Bool·beq x y) _ e) (omega arith) k
 
 marked-in : (R : List Bool) (k : ℕ) → marked R k ≡ true → k < length R

@@ -14,7 +14,7 @@ use Rattle.model.specs.Laws.Done.{Done, Stays, cap-pos, first-cap, first
 use Rattle.model.specs.Laws.Forest.{Depth, above, depth-unique, under-of}
 use Rattle.model.specs.Laws.Updates.{dissolve-self}
 use Rattle.model.specs.Laws.Views.{fold-carry, view-laws, view-on}
-use Rattle.model.specs.Laws.WellFormed.{Alive, SameBut, WellFormed, alive-pos, dissolve-parent-moved, dissolve-parent-stays, dissolve-same, dissolve-wf, labels, parent-not-self, place-parent, place-parent-other, place-same, same-nested}
+use Rattle.model.specs.Laws.WellFormed.{Alive, SameBut, WellFormed, alive-pos, dissolve-closed, dissolve-parent-moved, dissolve-parent-stays, dissolve-same, dissolve-wf, labels, place-parent, place-parent-other, place-same, same-nested}
 use Rattle.model.specs.Records.{Capability, at, cap-in, cap-open, cap-out, isAmbient, nested, parentOf}
 use Rattle.model.specs.Steps.{dissolve, move, place}
 use Rattle.model.specs.declared.Rec.{Rec}
@@ -44,13 +44,6 @@ Mono {A} v R its = (i : ℕ) (y : A) → R (view v its (parentOf its i)) y → R
 module _ {A : Type 0} {v : View A} {R : A → A → Type 0} (o : Ordered v R) {its : List Rec} (wf : WellFormed its) (mono : Mono v R its) where
   -- x is taken out
   module _ (x : ℕ) (xz : x ≢ 0) (cross : R (view v its x) (view v its (parentOf its x))) where
-    closed : (i : ℕ) → i ≢ x → parentOf (dissolve x its) i ≢ x
-    closed i h = go (ℕ-discrete (parentOf its i) x)
-      where
-        go : Dec (parentOf its i ≡ x) → parentOf (dissolve x its) i ≢ x
-        go (yes e) = rw (dissolve-parent-moved wf x xz i h e) (parent-not-self wf x xz)
-        go (no e) = rw (dissolve-parent-stays wf x xz i h e) e
-
     local : (i : ℕ) → i ≢ x → R (view v its (parentOf its i)) (view v its (parentOf (dissolve x its) i))
     local i h = go (ℕ-discrete (parentOf its i) x)
       where
@@ -59,12 +52,12 @@ module _ {A : Type 0} {v : View A} {R : A → A → Type 0} (o : Ordered v R) {i
         go (no e) = rw (dissolve-parent-stays wf x xz i h e) (o .rr _)
 
     pub out-view : (i : ℕ) → i ≢ x → R (view v its i) (view v (dissolve x its) i)
-    out-view i h = fold-carry R (o .rr _) (view-laws v wf) (view-laws v (dissolve-wf wf x xz)) (λ j. j ≢ x) (λ j n _. closed j n)
+    out-view i h = fold-carry R (o .rr _) (view-laws v wf) (view-laws v (dissolve-wf wf x xz)) (λ j. j ≢ x) (λ j n _. dissolve-closed wf x xz j n)
         (λ j n _ ih. rw (o .same _ (dissolve-same wf x xz j n)) (mono j _ (o .tr (local j n) ih))) h (dissolve-wf wf x xz .reach i .1)
 
     -- what the places above the records become
     pub out-over : (i : ℕ) → i ≢ x → R (view v its (parentOf its i)) (view v (dissolve x its) (parentOf (dissolve x its) i))
-    out-over i h = o .tr (local i h) (out-view _ (closed i h))
+    out-over i h = o .tr (local i h) (out-view _ (dissolve-closed wf x xz i h))
 
   -- a gets the parent t
   module _ (a t : ℕ) (live : Alive its a) (wf′ : WellFormed (place a t its)) where

@@ -1,6 +1,7 @@
 -- `tables::row` meets its contract.
 use borrow.Author.Needs.{needs}
 use borrow.Author.Tests.{eq-eqb, le-leb, lt-leb, ne-eqb}
+use mathlib.Core.Path.{refl}
 use native.Mathlib.Nat.{add-sub-cancel-left}
 use native.Mathlib.Omega.{arith}
 use Rattle.model.specs.Tables.{partIf, rowOf, tableSized}
@@ -19,7 +20,7 @@ part-result-end c = search needs
 
 returns : tie.Need-returns
 unfolding rowOf partIf tableSized rowStart startIf
-returns c = (simp (ne-eqb _ _ (c .before .if1 .taken)), simp (ne-eqb _ _ (c .before .if1 .taken)) (omega arith))
+returns c = (simp (ne-eqb _ _ (c .before .if1 .taken)), (refl, simp (ne-eqb _ _ (c .before .if1 .taken)) (omega arith)))
 
 sub-result-2 : tie.Need-sub-result-2
 sub-result-2 c = search needs
@@ -35,7 +36,7 @@ unfolding rowOf partIf tableSized rowStart startIf
 returns-2 c =
     let e = eq-eqb _ _ (c .before .before .if1 .left) in
     let l = lt-leb _ _ (c .before .if2 .taken) in
-    (simp (e, l), simp (e, l) (omega arith))
+    (simp (e, l), (refl, simp (e, l) (omega arith)))
 
 mul-at : tie.Need-mul-at
 mul-at c = search needs
@@ -57,7 +58,7 @@ unfolding rowOf partIf tableSized rowStart startIf
 returns-3 c =
     let e = eq-eqb _ _ (c .before .before .if1 .left) in
     let l = le-leb _ _ (c .before .if2 .left) in
-    (simp (e, l, add-sub-cancel-left), simp (e, l) (omega arith))
+    (simp (e, l, add-sub-cancel-left), (refl, simp (e, l) (omega arith)))
 
 pub row-spec : {M : Type 1} → statement M
 row-spec =
