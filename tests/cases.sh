@@ -1,4 +1,4 @@
-# What the scripts that write test cases share. The variable out is the folder of the cases.
+# What the scripts that write test cases and the walk-through's files share. The variable out is the folder of the cases.
 
 # byte N..: the bytes of these numbers
 byte() { for n in "$@"; do printf "\\$(printf '%03o' "$n")"; done; }

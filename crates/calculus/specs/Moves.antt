@@ -12,6 +12,7 @@ use Rattle.calculus.specs.declared.Decision.{Decision}
 use Rattle.calculus.specs.declared.Decision.the-variants.{Do, Refused}
 use Rattle.calculus.specs.declared.Move.{Move}
 
+-- the capability of a kind, by whether the kind is 2 and whether it is 3
 unfoldable pub capabilityBy : Bool → Bool → Capability
 capabilityBy true y = cap-in
 capabilityBy false true = cap-out
@@ -27,6 +28,7 @@ standsBy cap-in c a p b = not (eqb b (c .parent)) && eqb (p .parent) (a .parent)
 standsBy cap-out c a p b = eqb b (a .parent)
 standsBy cap-open c a p b = eqb (p .parent) (c .parent)
 
+-- whether the partner b fits: an ambient with c's name that stands where it has to
 unfoldable pub fitBy : Capability → Rec → Rec → Rec → ℕ → Bool
 fitBy k c a p b = isAmbient p && eqb (p .name) (c .name) && standsBy k c a p b
 
@@ -36,6 +38,7 @@ moveBy cap-in c b q t = record { actor = c; home = q; mover = q; dest = b; opene
 moveBy cap-out c b q t = record { actor = c; home = q; mover = q; dest = t; opened = c }
 moveBy cap-open c b q t = record { actor = c; home = q; mover = 0; dest = 0; opened = b }
 
+-- what a step's outcome decides: its refusal, or the move
 unfoldable pub decisionBy : Outcome → List Rec → ℕ → ℕ → Decision
 decisionBy (unmet n) its c b = Refused n
 decisionBy (met k) its c b = Do (moveBy k c b (parentOf its c) (parentOf its b))

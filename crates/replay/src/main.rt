@@ -21,7 +21,7 @@ struct State {
     tally: Tally,
 }
 
-// The same of a buffer that is lent to change.
+// The first n bytes of a buffer that is lent to change, or all of it where it has fewer.
 fn part_mut<'a>(s: &'a mut [u8], n: usize) -> &'a mut [u8] {
     if s.len() < n {
         return s;
