@@ -300,6 +300,22 @@ fn run_steps(it: &mut [u8], script: &[u8], answers: &mut [u8]) -> Counts
     c
 }
 
+// The run after refusal 13, on an itinerary that is known to be valid. (inner)
+pub fn run_valid(it: &mut [u8], script: &[u8], answers: &mut [u8]) -> Ran
+    requires { ⌜ validity (now it) ≡ pass ⌝ }
+    ensures { λ r. ⌜ (ranAs r ≡ runAnswer (now (it .entry)) (now (script .entry)) (now (answers .entry)))
+        × (now (it .exit) ≡ runAfter (now (it .entry)) (now (script .entry)) (now (answers .entry)))
+        × (now (answers .exit) ≡ runAnswers (now (it .entry)) (now (script .entry)) (now (answers .entry))) ⌝ }
+{
+    if !script_right(script, answers.len()) {
+        return Ran::Refused(Refusal {
+            number: 13,
+            record: 0,
+        });
+    }
+    Ran::Done(run_steps(it, script, answers))
+}
+
 // The run after refusals 1 to 6 and 13. The itinerary is validated once: a step keeps it valid.
 pub fn run(it: &mut [u8], script: &[u8], answers: &mut [u8]) -> Ran
     ensures { λ r. ⌜ (ranAs r ≡ runAnswer (now (it .entry)) (now (script .entry)) (now (answers .entry)))
@@ -310,11 +326,5 @@ pub fn run(it: &mut [u8], script: &[u8], answers: &mut [u8]) -> Ran
     if let Validated::Refused(r) = seen {
         return Ran::Refused(r);
     }
-    if !script_right(script, answers.len()) {
-        return Ran::Refused(Refusal {
-            number: 13,
-            record: 0,
-        });
-    }
-    Ran::Done(run_steps(it, script, answers))
+    run_valid(it, script, answers)
 }

@@ -15,7 +15,7 @@ use Rattle.closure.specs.Cells.{Bits, and-in, at-word, one-bit, orAt}
 use Rattle.closure.specs.Lowest.{Lowest}
 use Rattle.closure.specs.Rules.{Complete, Moves, Sound}
 use Rattle.model.specs.Laws.Bit.{or-bit, zero-bit}
-use Rattle.model.specs.Laws.Checks.{or-cases, or-right}
+use Rattle.model.specs.Laws.Checks.{bool-iff, or-cases, or-right}
 use Rattle.model.specs.Tables.{testBit}
 use Rattle.tables.specs.Bit.{or-left}
 use Rattle.tables.specs.Grow.{Set}
@@ -29,6 +29,13 @@ pub record Adds (Q R : ℕ → ℕ → Type 0) (p p′ : List ℕ) : Type 0 wher
   pub keeps : (i x : ℕ) → Bit p i x → Bit p′ i x
   pub has : (i x : ℕ) → Q i x → Bit p′ i x
   pub only : (i x : ℕ) → Bit p′ i x → Bit p i x ⊎ R i x
+
+-- a contract that says Adds Q Q fixes every bit
+pub adds-same : {Q : ℕ → ℕ → Type 0} {p p₁ p₂ : List ℕ} → Adds Q Q p p₁ → Adds Q Q p p₂ → (i x : ℕ) → testBit (getD p₁ i 0) x ≡ testBit (getD p₂ i 0) x
+adds-same {Q} {p} a b i x = bool-iff _ _ (into a b) (into b a)
+  where
+    into : {q r : List ℕ} → Adds Q Q p q → Adds Q Q p r → Bit q i x → Bit r i x
+    into c d t = ⊎-elim (λ s. d .keeps i x s) (λ s. d .has i x s) (c .only i x t)
 
 pub adds-none : {Q R : ℕ → ℕ → Type 0} {p : List ℕ} → ((i x : ℕ) → Q i x → ⊥) → Adds Q R p p
 adds-none f = record { keeps = λ i x t. t; has = λ i x q. absurd (f i x q); only = λ i x t. inl t }

@@ -1,10 +1,12 @@
 -- What the inner contracts cite: the number of a reading, and climbs that stop at records known to reach the environment.
 use Prim.Native.Nat.{_%_, _<_, _≤_, ℕ}
+use lib.Dec.{leb}
 use lib.ListN.{getD, length}
 use mathlib.Core.Bool.{Bool, _&&_, false, true}
 use mathlib.Core.List.{List}
 use mathlib.Core.Path.{_≡_}
 use Rattle.model.specs.Climbing.{nearest, reaches, reaching, viewFrom}
+use Rattle.model.specs.Finite.{tabulate}
 use Rattle.model.specs.Laws.Forest.{Depth}
 use Rattle.model.specs.Records.{count, decode, isAmbient, parentOf, records}
 use Rattle.model.specs.Refusals.{pass}
@@ -64,11 +66,24 @@ pub record Labelable (s labels : List ℕ) : Type 0 where
   pub room : count s < length labels
   pub decided : Labels s labels
 
+-- from labels to labels′ no number is less decided, and what stands past the count stays
+pub record Extends (s labels labels′ : List ℕ) : Type 0 where
+  pub stays : (j : ℕ) → getD labels j 0 < 64 → getD labels′ j 0 < 64
+  pub past : (j : ℕ) → count s < j → getD labels′ j 0 ≡ getD labels j 0
+
 -- number i is decided as well
 pub record Labelled (s labels : List ℕ) (i : ℕ) (labels′ : List ℕ) : Type 0 where
   pub decided : Labels s labels′
-  pub stays : (j : ℕ) → getD labels j 0 < 64 → getD labels′ j 0 < 64
+  pub more : Extends s labels labels′
   pub here : getD labels′ i 0 < 64
+
+-- the label of the nearest ambient from number j on upwards, and past the count what stood there
+unfoldable pub labelAt : List Rec → List ℕ → ℕ → ℕ
+labelAt its old j = elim (leb j (length its)) [ true ↦ nearest its j | false ↦ getD old j 0 ]
+
+-- the lent labels once all are found
+unfoldable pub nearestLabels : List Rec → List ℕ → List ℕ
+nearestLabels its old = tabulate 0 (length old) (labelAt its old)
 
 -- all are decided
 pub record Nearests (s labels : List ℕ) : Type 0 where

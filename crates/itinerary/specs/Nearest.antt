@@ -1,15 +1,18 @@
 -- Climbs in a valid itinerary that stop at what is already decided.
 use Prim.Native.Nat.{_+_, _-_, _<_, _≤_, suc, zero, ℕ}
 use lib.ListN.{getD, getD-replicate, length, length-replicate, length-set, replicate, set}
-use lib.Seq.{getD-set-other, getD-set-same}
+use borrow.Author.Tests.{le-leb, lt-leb}
+use lib.Seq.{ext-getD, getD-set-other, getD-set-same}
 use mathlib.Core.List.{List}
 use mathlib.Core.Logic.{_≢_}
 use mathlib.Core.Path.{_∙_, _≡_, ap, refl, sym}
-use native.Mathlib.Decide.{ℕ-discrete}
+use native.Mathlib.Decide.{decLe, ℕ-discrete}
+use native.Mathlib.Nat.{zero-add}
 use native.Mathlib.Omega.{arith}
 use Rattle.model.specs.Climbing.{container, labelled, nearest, nesting}
 use Rattle.model.specs.Laws.Bytes.{at-whole, length-records, valid-wf}
 use Rattle.model.specs.Laws.Containers.{labelled-amb, labelled-other, nearest-amb, nearest-small, nearest-up}
+use Rattle.model.specs.Laws.Finite.{getD-tabulate, length-tabulate}
 use Rattle.model.specs.Laws.Forest.{above, depth-le}
 use Rattle.model.specs.Laws.Views.{view-top}
 use Rattle.model.specs.Laws.WellFormed.{WellFormed, parent-in, small}
@@ -17,7 +20,7 @@ use Rattle.model.specs.Records.{at, count, decode, isAmbient, parentOf, records
 use Rattle.model.specs.Refusals.{pass}
 use Rattle.model.specs.Validity.{validity}
 use Rattle.model.specs.declared.Rec.{Rec}
-use Rattle.itinerary.specs.Known.{Labelable, Labelled, Labels, Near, Nearests}
+use Rattle.itinerary.specs.Known.{Extends, Labelable, Labelled, Labels, Near, Nearests, labelAt, nearestLabels}
 use Rattle.itinerary.specs.Laws.{ambient-is, ambient-not, valid-few, valid-whole}
 
 -- r is record i of a valid itinerary
@@ -63,28 +66,34 @@ near-all s v i l =
     let d = w .reach i in
     record { inside = l; near = (d .0, omega (arith, depth-le (length (records s)) (parent-in w) (omega (arith, length-records s)) (d .1), length-records s), d .1) }
 
+pub extends-none : {s labels : List ℕ} → Extends s labels labels
+extends-none = record { stays = λ j n. n; past = λ j l. refl }
+
 -- one label more
-pub label-more : {s labels labels′ : List ℕ} → validity s ≡ pass → Labels s labels′ → ((j : ℕ) → getD labels j 0 < 64 → getD labels′ j 0 < 64) →
-    (i k : ℕ) → i < length labels′ → 1 ≤ i → k ≡ nearest (records s) i → Labelled s labels i (set labels′ i k)
-label-more {s} {labels} {labels′} v w stays i k l z e = record {
-  decided = record { root = getD-set-other labels′ i 0 k 0 (λ q. omega (arith, q)) ∙ w .root; told = λ j m n. told j m n (ℕ-discrete j i) };
-  stays = λ j n. keeps j n (ℕ-discrete j i);
+pub label-more : {s labels labels′ : List ℕ} → validity s ≡ pass → Labels s labels′ → Extends s labels labels′ →
+    (i k : ℕ) → i < length labels′ → 1 ≤ i → i ≤ count s → k ≡ nearest (records s) i → Labelled s labels i (set labels′ i k)
+label-more {s} {labels} {labels′} v w x i k l z m e = record {
+  decided = record { root = other 0 (λ q. omega (arith, q)) ∙ w .root; told = λ j m n. told j m n (ℕ-discrete j i) };
+  more = record { stays = λ j n. keeps j n (ℕ-discrete j i); past = λ j n. other j (λ q. omega (arith, q)) ∙ x .past j n };
   here = below;
 }
   where
     now-here : getD (set labels′ i k) i 0 ≡ k
     now-here = getD-set-same labels′ i k 0 l
 
+    other : (j : ℕ) → j ≢ i → getD (set labels′ i k) j 0 ≡ getD labels′ j 0
+    other j q = getD-set-other labels′ i j k 0 q
+
     below : getD (set labels′ i k) i 0 < 64
     below = omega (arith, now-here, e, nearest-small (valid-wf s v) i)
 
     told : (j : ℕ) → j ≤ count s → getD (set labels′ i k) j 0 < 64 → Dec (j ≡ i) → getD (set labels′ i k) j 0 ≡ nearest (records s) j
     told j m n (yes q) = rw q (now-here ∙ e)
-    told j m n (no q) = let o = getD-set-other labels′ i j k 0 q in o ∙ w .told j m (omega (arith, n, o))
+    told j m n (no q) = other j q ∙ w .told j m (omega (arith, n, other j q))
 
     keeps : (j : ℕ) → getD labels j 0 < 64 → Dec (j ≡ i) → getD (set labels′ i k) j 0 < 64
     keeps j n (yes q) = rw q below
-    keeps j n (no q) = omega (arith, getD-set-other labels′ i j k 0 q, stays j n)
+    keeps j n (no q) = omega (arith, other j q, x .stays j n)
 
 -- what is not decided is a record
 pub label-positive : {s labels : List ℕ} (i : ℕ) → Labels s labels → 64 ≤ getD labels i 0 → 1 ≤ i
@@ -132,13 +141,32 @@ pub decided-root : {s labels : List ℕ} → Labels s labels → (j : ℕ) → j
 decided-root w zero l = omega (arith, w .root)
 decided-root w (suc j) l = absurd (omega arith)
 
-pub decided-next : {s labels labels′ x : List ℕ} (i : ℕ) → Labelable s labels → ((j : ℕ) → j ≤ i → getD labels j 0 < 64) → Labelled s labels (i + 1) labels′ → length labels′ ≡ length labels → x ≡ labels′ →
-    (Labelable s x) × (length x ≡ length labels) × ((j : ℕ) → j ≤ i + 1 → getD x j 0 < 64)
-decided-next {labels′ = labels′} i w f n e q = rw q (labelable w e (n .decided), e, λ j l. go j l (ℕ-discrete j (i + 1)))
+pub decided-next : {s labels₀ labels labels′ x : List ℕ} (i : ℕ) → Labelable s labels → Extends s labels₀ labels → ((j : ℕ) → j ≤ i → getD labels j 0 < 64) → Labelled s labels (i + 1) labels′ →
+    length labels′ ≡ length labels → x ≡ labels′ → (Labelable s x) × (length x ≡ length labels) × (Extends s labels₀ x) × ((j : ℕ) → j ≤ i + 1 → getD x j 0 < 64)
+decided-next {s} {labels₀} {labels′ = labels′} i w m f n e q = rw q (labelable w e (n .decided), e, more, λ j l. go j l (ℕ-discrete j (i + 1)))
   where
+    more : Extends s labels₀ labels′
+    more = record { stays = λ j l. n .more .stays j (m .stays j l); past = λ j l. n .more .past j l ∙ m .past j l }
+
     go : (j : ℕ) → j ≤ i + 1 → Dec (j ≡ i + 1) → getD labels′ j 0 < 64
     go j l (yes u) = rw u (n .here)
-    go j l (no u) = n .stays j (f j (omega arith))
+    go j l (no u) = n .more .stays j (f j (omega arith))
 
-pub decided-all : {s labels : List ℕ} (n : ℕ) → Labelable s labels → ((j : ℕ) → j ≤ n → getD labels j 0 < 64) → count s ≤ n → Nearests s labels
-decided-all n w f l = record { room = w .room; is = λ j m. w .decided .told j m (f j (omega arith)) }
+pub decided-all : {s labels₀ labels : List ℕ} (n : ℕ) → Labelable s labels → Extends s labels₀ labels → length labels ≡ length labels₀ → ((j : ℕ) → j ≤ n → getD labels j 0 < 64) → count s ≤ n →
+    labels ≡ nearestLabels (records s) labels₀
+unfolding nearestLabels labelAt
+decided-all {s} {labels₀} {labels} n w m e f l =
+    ext-getD 0 labels _ (e ∙ sym (length-tabulate (labelAt (records s) labels₀) 0 (length labels₀)))
+    (λ j h. same j (decLe j (count s)) ∙ sym (getD-tabulate (labelAt (records s) labels₀) 0 (length labels₀) j 0 (omega arith) ∙ ap (labelAt (records s) labels₀) (zero-add j)))
+  where
+    same : (j : ℕ) → Dec (j ≤ count s) → getD labels j 0 ≡ labelAt (records s) labels₀ j
+    same j (yes h) = w .decided .told j h (f j (omega arith)) ∙ rw (le-leb j (length (records s)) (omega (arith, length-records s)), labelAt)
+    same j (no h) = m .past j (omega arith) ∙ rw (lt-leb j (length (records s)) (omega (arith, length-records s)), labelAt)
+
+-- what callers read from them
+pub labels-are : {s labels : List ℕ} (labels₀ : List ℕ) → count s < length labels₀ → labels ≡ nearestLabels (records s) labels₀ → Nearests s labels
+unfolding nearestLabels labelAt
+labels-are {s} {labels} labels₀ l e = record {
+  room = rw (ap length e ∙ length-tabulate (labelAt (records s) labels₀) 0 (length labels₀)) l;
+  is = λ j h. ap (λ x. getD x j 0) e ∙ getD-tabulate (labelAt (records s) labels₀) 0 (length labels₀) j 0 (omega arith) ∙ ap (labelAt (records s) labels₀) (zero-add j) ∙ rw (le-leb j (length (records s)) (omega (arith, length-records s)), labelAt);
+}

@@ -13,7 +13,7 @@ ghost use Rattle.model.specs.Refusals.{answer, eachOf, pass};
 ghost use Rattle.model.specs.Validity.{climbCheck, goneRight, labelRight, nameRight, parentRight, recordCheck, spareRight, validity};
 ghost use Rattle.model.specs.Calls.{containerAnswer, validateAnswer};
 ghost use Rattle.model.specs.Numbers.{containedAs, readingOf, validatedAs};
-ghost use Rattle.itinerary.specs.Known.{Climbable, Enough, Known, Labelable, Labelled, Near, Nearests, Parented, formRight, readingNumber, upFrom};
+ghost use Rattle.itinerary.specs.Known.{Climbable, Enough, Known, Labelable, Labelled, Near, nearestLabels, Parented, formRight, readingNumber, upFrom};
 
 // Whether the spare bytes of record i are zero, byte by byte, as `edge_at`.
 fn spare_edge(it: &[u8], i: u16) -> bool
@@ -237,7 +237,7 @@ fn nearest(it: &[u8], labels: &mut [u8], i: u16, left: usize) -> u8
 // The label of the nearest ambient from each number on upwards; inner. Where the parent's is decided no call is made.
 pub fn nearest_labels(it: &[u8], labels: &mut [u8])
     requires { ⌜ Labelable (now it) (now labels) ⌝ }
-    ensures { λ _. ⌜ Nearests (now (it .entry)) (now (labels .exit)) ⌝ }
+    ensures { λ _. ⌜ now (labels .exit) ≡ nearestLabels (records (now (it .entry))) (now (labels .entry)) ⌝ }
 {
     let n = (it.len() / 8) as u16;
     let mut i: u16 = 0;

@@ -8,7 +8,7 @@ use mathlib.Core.List.{List}
 use mathlib.Core.Logic.{⊎-elim}
 use mathlib.Core.Option.{some}
 use mathlib.Core.Path.{_∙_, _≡_, ap, refl, subst, sym}
-use native.Mathlib.Decide.{ℕ-discrete}
+use native.Mathlib.Decide.{decLe, ℕ-discrete}
 use native.Mathlib.Omega.{arith}
 use Rattle.closure.specs.Adds.{Adds, Transposed, adds-as, adds-none, adds-or, transposed-bit}
 use Rattle.closure.specs.Cells.{Bits, at-word, below-64, orAt}
@@ -18,10 +18,10 @@ use Rattle.model.specs.Scripts.{kindOf}
 use Rattle.model.specs.Analysis.{free}
 use Rattle.model.specs.Laws.Bit.{zero-bit}
 use Rattle.model.specs.Laws.Bytes.{at-decode, shape-kind, valid-wf}
-use Rattle.model.specs.Laws.Checks.{and-make}
+use Rattle.model.specs.Laws.Checks.{and-make, bool-iff}
 use Rattle.model.specs.Laws.Holding.{Rule}
 use Rattle.model.specs.Laws.Sets.{Narrow}
-use Rattle.model.specs.Laws.Updates.{at-root}
+use Rattle.model.specs.Laws.Updates.{at-over, at-root}
 use Rattle.model.specs.Laws.WellFormed.{WellFormed, and-left, and-right, shape, shape-label, shape-named}
 use Rattle.model.specs.Records.{Capability, at, cap-in, cap-open, cap-out, capability, count, decode, isAmbient, nested}
 use Rattle.model.specs.Refusals.{pass}
@@ -95,6 +95,17 @@ module _ (its : List Rec) (H : ℕ → ℕ → Bool) where
       has : (j i b : ℕ) → j ≤ n + 1 → Aims H (at its j) i b → Dec (j ≡ n + 1) → testBit (getD p′ i 0) b ≡ true
       has j i b l m (yes q) = a .has i b (subst (λ (x : Rec). Aims H x i b) (ap (at its) q ∙ sym e) m)
       has j i b l m (no q) = a .keeps i b (f .has j i b (omega arith) m)
+
+-- a contract that says Folds of all records fixes every bit
+pub folds-same : {its : List Rec} {H : ℕ → ℕ → Bool} {p q : List ℕ} → Folds its H (length its) p → Folds its H (length its) q → (i b : ℕ) → testBit (getD p i 0) b ≡ testBit (getD q i 0) b
+folds-same {its} {H} f g i b = bool-iff _ _ (into f g) (into g f)
+  where
+    within : (s : Source its H i b) → Dec (s .from ≤ length its) → s .from ≤ length its
+    within s (yes l) = l
+    within s (no l) = let k = s .aims .capable in absurd (omega (arith, k, ap (λ (r : Rec). r .kind) (at-over its (s .from) (omega arith))))
+
+    into : {x y : List ℕ} → Folds its H (length its) x → Folds its H (length its) y → testBit (getD x i 0) b ≡ true → testBit (getD y i 0) b ≡ true
+    into c d t = let s = c .only i b t in d .has (s .from) i b (within s (decLe (s .from) (length its))) (s .aims)
 
 -- H of the table w, transposed into the clear words z
 module _ {its : List Rec} (wf : WellFormed its) (w z bearers : List ℕ) (zero : (i : ℕ) → getD z i 0 ≡ 0) (a : Adds (Transposed w 128 1 64) (Transposed w 128 1 64) z bearers) where

@@ -56,7 +56,7 @@ fn lowest_unseen(r: [bool; 64], seen: [bool; 64]) -> Found
 }
 
 // The reached labels. (inner) Each label goes one step on, once, unless it is a boundary.
-pub fn reach(table: &[u8], policy: &[u8]) -> [bool; 64]
+fn reach(table: &[u8], policy: &[u8]) -> [bool; 64]
     requires { ⌜ length (now table) ≡ 1544 ⌝ }
     requires { ⌜ length (now policy) ≡ 64 ⌝ }
     ensures { λ q. ⌜ marked q ≡ inR (parts (bits (now (table .entry)))) (now (policy .entry)) ⌝ }

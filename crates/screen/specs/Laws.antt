@@ -115,7 +115,11 @@ pub ran-refused : {a : Answer Counts} {x : Ran} {r : Refusal} → ranAs x ≡ a 
 unfolding ranAs refusal
 ran-refused e q = sym e ∙ ap ranAs q
 
--- a maker that is done had a policy of 64 bytes
+-- a maker that is done had a valid itinerary, and a policy of 64 bytes
+pub make-valid : (s policy table : List ℕ) (m : ℕ) → makeAnswer s policy table ≡ done m → validity s ≡ pass
+unfolding makeAnswer making
+make-valid s policy table m h = then-pass _ _ (answer-done (making s policy table) _ m h) .0
+
 pub make-policy : (s policy table : List ℕ) (m : ℕ) → makeAnswer s policy table ≡ done m → length policy ≡ 64
 unfolding makeAnswer making policyRight
 make-policy s policy table m h =

@@ -34,7 +34,7 @@ fn not_gone(it: &[u8]) -> u16
     sum
 }
 
-// The screen with a lent table to make; inner.
+// The screen with a lent table to make; inner. What the maker accepts is valid: the run needn't look again.
 fn screen_with(
     it: &mut [u8],
     policy: &[u8],
@@ -51,7 +51,7 @@ fn screen_with(
         Made::Refused(r) => Screened::Refused(r),
         Made::Done(ones) => {
             let verdict = reach::judge(table, policy);
-            match calculus::run(it, script, answers) {
+            match calculus::run_valid(it, script, answers) {
                 Ran::Refused(r) => Screened::Refused(r),
                 Ran::Done(counts) => Screened::Done(Screen {
                     verdict,

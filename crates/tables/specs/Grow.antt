@@ -59,6 +59,10 @@ pub record Smallest (F : Set → Type 0) (s s′ : Set) : Type 0 where
   pub inside : (u : Set) → Inside s u → F u → Inside s′ u
   pub closed : F s′
 
+-- there is one such set: a contract that says Smallest fixes every bit
+pub smallest-same : {F : Set → Type 0} {s u v : Set} → Smallest F s u → Smallest F s v → u ≡ v
+smallest-same x y = same (x .inside _ (y .keeps) (y .closed)) (y .inside _ (x .keeps) (x .closed))
+
 unfoldable pub any : Set → Type 0
 any s = Unit {0}
 

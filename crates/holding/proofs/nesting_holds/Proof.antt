@@ -1,6 +1,6 @@
 -- `holding::nesting_holds` meets its contract.
 use borrow.Author.Needs.{needs}
-use Rattle.itinerary.specs.Nearest.{labels-root}
+use Rattle.itinerary.specs.Nearest.{labels-are, labels-root}
 use Rattle.holding.proofs.nesting_holds.Statement.{statement}
 use Rattle.holding.proofs.nesting_holds.Tie as tie
 
@@ -17,7 +17,7 @@ slice-aggregate-nests-hold : tie.Need-slice-aggregate-nests-hold
 slice-aggregate-nests-hold c = search needs
 
 nests-hold-requires : tie.Need-nests-hold-requires
-nests-hold-requires c κs = search needs
+nests-hold-requires c κs = let s = c .before .before .before .before .before .before in (s .pre .0, (s .pre .1, labels-are _ (labels-root (s .pre .0) .room) (c .before .before .nearest-labels .ensures)))
 
 returns : tie.Need-returns
 returns c = search needs

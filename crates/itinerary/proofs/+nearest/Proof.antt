@@ -6,7 +6,7 @@ use borrow.Fn.PlainCycle.{Measures, and, falls, is}
 use lib.ListN.{length-set}
 use mathlib.Core.Path.{_∙_}
 use native.Mathlib.Omega.{arith}
-use Rattle.itinerary.specs.Nearest.{label-decided, label-more, label-open, label-positive, near-above, near-left, nearest-above, parent-near}
+use Rattle.itinerary.specs.Nearest.{extends-none, label-decided, label-more, label-open, label-positive, near-above, near-left, nearest-above, parent-near}
 use Rattle.itinerary.proofs.nearest.Reads as nearest
 use Rattle.itinerary.proofs.nearest.Kinds as nearest-kinds
 use Rattle.itinerary.proofs.+nearest.Lts-nearest as nearest-lts
@@ -95,7 +95,7 @@ nearest-returns : (t : ℕ) → nearest-lts.Need-returns (
 nearest-returns t c =
     let w = c .before .before .before .before .before .before .before .pre .1 in
     let h = label-decided (c .before .before .before .before .before .before .before .pre .1 .0) _ _ (c .before .before .before .before .record-at .ensures) (c .before .before .before .before .before .before .before .pre .1 .2) _ (c .before .labelled .ensures) (c .if1 .taken) in
-    (h, label-more (w .0 .valid) (w .0 .decided) (λ j n. n) _ _ (omega (arith, c .before .before .before .before .before .before .before .pre .1 .0 .room, c .before .before .before .before .before .before .before .pre .1 .1 .inside)) (w .2) h)
+    (h, label-more (w .0 .valid) (w .0 .decided) extends-none _ _ (omega (arith, c .before .before .before .before .before .before .before .pre .1 .0 .room, c .before .before .before .before .before .before .before .pre .1 .1 .inside)) (w .2) (w .1 .inside) h)
 
 nearest-returns-2 : (t : ℕ) → nearest-lts.Need-returns-2 (
   record-at-reads.Asked,
@@ -161,7 +161,7 @@ nearest-returns-3 t c =
     let w = c .before .before .before .before .before .before .before .before .before .before .before .before .pre .1 in
     let f = c .before .before .nearest .ensures in
     let h = f .0 ∙ nearest-above _ (c .before .before .before .before .before .before .before .before .before .before .before .before .pre .1 .0 .valid) _ _ (c .before .before .before .before .before .before .before .before .before .record-at .ensures) (λ q. omega (arith, q, c .before .before .before .before .before .before .before .before .before .before .before .before .pre .1 .2)) (label-open (c .before .before .before .before .before .before .before .before .before .before .before .before .pre .1 .0) _ _ (c .before .before .before .before .before .before .before .before .before .record-at .ensures) (c .before .before .before .before .before .before .before .before .before .before .before .before .pre .1 .2) _ (c .before .before .before .before .before .before .labelled .ensures) (c .before .before .before .before .before .if1 .left) .0) in
-    (h, label-more (w .0 .valid) (f .1 .decided) (f .1 .stays) _ _ (omega (arith, c .before .before .before .before .before .before .before .before .before .before .before .before .pre .1 .0 .room, c .before .before .before .before .before .before .before .before .before .before .before .before .pre .1 .1 .inside, c .before .before .nearest .kept .1 .0)) (w .2) h)
+    (h, label-more (w .0 .valid) (f .1 .decided) (f .1 .more) _ _ (omega (arith, c .before .before .before .before .before .before .before .before .before .before .before .before .pre .1 .0 .room, c .before .before .before .before .before .before .before .before .before .before .before .before .pre .1 .1 .inside, c .before .before .nearest .kept .1 .0)) (w .2) (w .1 .inside) h)
 
 pub +nearest-spec : {M : Type 1} → statement M
 +nearest-spec = close μ-nearest λ t. nearest-lts.spec (

@@ -5,15 +5,15 @@ use lib.ListN.{getD, length, length-set}
 use mathlib.Core.Logic.{⊎-elim}
 use mathlib.Core.Path.{_∙_, _≡_, refl}
 use native.Mathlib.Omega.{arith}
-use Rattle.itinerary.specs.Known.{Labelable}
+use Rattle.itinerary.specs.Known.{Extends, Labelable}
 use Rattle.itinerary.specs.Laws.{valid-few}
-use Rattle.itinerary.specs.Nearest.{decided-all, decided-next, decided-root, label-decided, label-more, near-all, parent-near}
+use Rattle.itinerary.specs.Nearest.{decided-all, decided-next, decided-root, extends-none, label-decided, label-more, near-all, parent-near}
 use Rattle.model.specs.Records.{count}
 use Rattle.itinerary.proofs.nearest_labels.Statement.{statement}
 use Rattle.itinerary.proofs.nearest_labels.Tie as tie
 
 abbrev Inv-loop : tie.InvT-loop
-Inv-loop it labels₀ n i₀ labels i = (i ≤ n) × (Labelable it labels) × (length labels ≡ length labels₀) × ((j : ℕ) → j ≤ i → getD labels j 0 < 64)
+Inv-loop it labels₀ n i₀ labels i = (i ≤ n) × (Labelable it labels) × (length labels ≡ length labels₀) × (Extends it labels₀ labels) × ((j : ℕ) → j ≤ i → getD labels j 0 < 64)
 
 abbrev μ-loop : tie.MeasureT-loop
 μ-loop it labels₀ n i₀ labels i = n - i
@@ -22,7 +22,7 @@ cast-n : tie.Need-cast-n Inv-loop μ-loop
 cast-n c = omega (arith, valid-few _ (c .before .before .pre .valid))
 
 loop-holds : tie.Need-loop-holds Inv-loop μ-loop
-loop-holds c = let w = c .before .before .pre in (search needs, w, refl, decided-root (w .decided))
+loop-holds c = let w = c .before .before .pre in (search needs, w, refl, extends-none, decided-root (w .decided))
 
 add-record-at : tie.Need-add-record-at Inv-loop μ-loop
 add-record-at c = omega (arith, valid-few _ (c .before .before .before .before .pre .valid))
@@ -73,16 +73,16 @@ loop-again c =
     let m = w .room in
     let d = ⊎-elim
     (λ v. let h = label-decided w _ _ (c .before .before .before .before .record-at .ensures) (omega arith) _ (c .before .labelled .ensures) (v .0 .taken) in
-    decided-next (l .i) w (l .inv .3) (label-more (w .valid) (w .decided) (λ j n. n) _ _ (omega arith) (omega arith) h) (length-set (l .labels) (l .i + 1) _) (v .1))
-    (λ v. decided-next (l .i) w (l .inv .3) (v .2 .ensures .1) (v .2 .kept .1 .0) (v .5)) (c .if1 .came) in
-    (omega arith, d .0, d .1 ∙ l .inv .2, d .2)
+    decided-next (l .i) w (l .inv .3) (l .inv .4) (label-more (w .valid) (w .decided) extends-none _ _ (omega arith) (omega arith) (omega arith) h) (length-set (l .labels) (l .i + 1) _) (v .1))
+    (λ v. decided-next (l .i) w (l .inv .3) (l .inv .4) (v .2 .ensures .1) (v .2 .kept .1 .0) (v .5)) (c .if1 .came) in
+    (omega arith, d .0, d .1 ∙ l .inv .2, d .2, d .3)
 
 same-length : tie.Need-same-length Inv-loop μ-loop
 same-length c = c .before .loop .inv .2
 
 returns : tie.Need-returns Inv-loop μ-loop
 unfolding count
-returns c = let l = c .before .loop in decided-all (l .i) (l .inv .1) (l .inv .3) (omega arith)
+returns c = let l = c .before .loop in decided-all (l .i) (l .inv .1) (l .inv .3) (l .inv .2) (l .inv .4) (omega arith)
 
 pub nearest-labels-spec : {M : Type 1} → statement M
 nearest-labels-spec =

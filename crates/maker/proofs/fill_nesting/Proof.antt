@@ -1,6 +1,6 @@
 -- `maker::fill_nesting` meets its contract.
 use borrow.Author.Needs.{needs}
-use Rattle.itinerary.specs.Nearest.{labels-root}
+use Rattle.itinerary.specs.Nearest.{labels-are, labels-root}
 use Rattle.maker.proofs.fill_nesting.Statement.{statement}
 use Rattle.maker.proofs.fill_nesting.Tie as tie
 
@@ -17,7 +17,7 @@ slice-aggregate-nest : tie.Need-slice-aggregate-nest
 slice-aggregate-nest c = search needs
 
 nest-requires : tie.Need-nest-requires
-nest-requires c κs = let s = c .before .before .before .before .before .before .before in (s .pre .0, (s .pre .1, c .before .before .before .nearest-labels .ensures))
+nest-requires c κs = let s = c .before .before .before .before .before .before .before in (s .pre .0, (s .pre .1, labels-are _ (labels-root (s .pre .1) .room) (c .before .before .before .nearest-labels .ensures)))
 
 same-length : tie.Need-same-length
 same-length c = search needs
