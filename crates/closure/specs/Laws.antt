@@ -13,7 +13,7 @@ use native.Mathlib.Omega.{arith}
 use Rattle.closure.specs.Cells.{Bits, Word, and-in, and-l, and-r, at-word, last-or, never, one-bit, word-make, word-use}
 use Rattle.closure.specs.Lowest.{Lowest}
 use Rattle.closure.specs.Marks.{Marked, marked-none, marked-then}
-use Rattle.closure.specs.Rules.{I, Nests, Row, Rows}
+use Rattle.closure.specs.Rules.{I, Moved, Nests, Row, Rows, nests-same}
 use Rattle.model.specs.Finite.{every}
 use Rattle.model.specs.Laws.Bit.{or-bit, zero-bit}
 use Rattle.model.specs.Laws.Checks.{or-cases, or-right}
@@ -70,16 +70,11 @@ join-rows w p b {s₁} g h =
 -- ---- a pair
 
 module _ (m : List ℕ) (p b : ℕ) where
-  -- in and out
-  pub record Moved (u : Set) : Type 0 where
-    pub ins : (a : ℕ) → a < 64 → testBit (getD m b 0) a ≡ true → I u p a → I u b a
-    pub outs : (a : ℕ) → a < 64 → testBit (getD m (64 + b) 0) a ≡ true → I u b a → I u p a
-
   -- both rows are read from w
   pub pair-moved : (w : List ℕ) {s₁ s₂ : Set} →
       Grown (Word 64 (2 * b) (bitAnd (getD w (2 * p) 0) (getD m b 0))) (Word 64 (2 * b) (bitAnd (getD w (2 * p) 0) (getD m b 0))) (Bits w) s₁ →
       Grown (Word 64 (2 * p) (bitAnd (getD w (2 * b) 0) (getD m (64 + b) 0))) (Word 64 (2 * p) (bitAnd (getD w (2 * b) 0) (getD m (64 + b) 0))) s₁ s₂ →
-      Grown Moved Moved (Bits w) s₂
+      Grown (Moved m p b) (Moved m p b) (Bits w) s₂
   pair-moved w g h =
       chain (asked g (λ u i c. word-make (2 * b) (bitAnd here enter) u (λ x t l. sym (ap u (row-lo b x))
       ∙ c .ins x l (and-r here enter x t) (i (128 * p + x) (bit-lo w p x l ∙ and-l here enter x t))))) h
@@ -102,12 +97,12 @@ module _ (m : List ℕ) (p b : ℕ) where
       leave : ℕ
       leave = getD m (64 + b) 0
 
-  pub pair-open : {s s₁ s₂ : Set} → testBit (getD m (128 + b) 0) p ≡ true → Grown Moved Moved s s₁ → Grown (RowIn p b) (RowIn p b) s₁ s₂ → Grown (Nests m p b) (Nests m p b) s s₂
+  pub pair-open : {s s₁ s₂ : Set} → testBit (getD m (128 + b) 0) p ≡ true → Grown (Moved m p b) (Moved m p b) s s₁ → Grown (RowIn p b) (RowIn p b) s₁ s₂ → Grown (Nests m p b) (Nests m p b) s s₂
   unfolding RowIn
-  pair-open t g h = chain (asked g (λ u i c. record { ins = c .ins; outs = c .outs })) h (λ u i c. c .opens t) (λ e r r₁. record { ins = r .ins; outs = r .outs; opens = λ _. r₁ })
+  pair-open t g h = chain (asked g (λ u i c. c .moved)) h (λ u i c. c .opens t) (λ e r r₁. record { moved = r; opens = λ _. r₁ })
 
-  pub pair-shut : {s s₁ : Set} → testBit (getD m (128 + b) 0) p ≡ false → Grown Moved Moved s s₁ → Grown (Nests m p b) (Nests m p b) s s₁
-  pair-shut d g = recast g (λ u i c. record { ins = c .ins; outs = c .outs }) (λ r. record { ins = r .ins; outs = r .outs; opens = λ t. never _ t d })
+  pub pair-shut : {s s₁ : Set} → testBit (getD m (128 + b) 0) p ≡ false → Grown (Moved m p b) (Moved m p b) s s₁ → Grown (Nests m p b) (Nests m p b) s s₁
+  pair-shut d g = recast g (λ u i c. c .moved) (λ r. record { moved = r; opens = λ t. never _ t d })
 
 -- ---- a loop over the bits of b, of which `rest` are left
 
@@ -192,23 +187,10 @@ module _ {R : ℕ → Type 0} (m w w′ : List ℕ) (c : ℕ) (M : Marked R w w�
 
     frame : Row m q (Bits w) → Row m q (Bits w′)
     unfolding Row Quiet
-    frame f b hb t = record {
-      ins = λ a l v s. back b a (omega arith) not-b (g .ins a l v (to q a (omega arith) not-q s));
-      outs = λ a l v s. back q a (omega arith) not-q (g .outs a l v (to b a (omega arith) not-b s));
-      opens = λ v k l s. back q k l not-q (g .opens v k l (to b k l not-b s));
-    }
+    frame f b hb t = nests-same m q b (λ k l. same-row q k not-q l) (λ k l. same-row b k not-b l) (f b hb (sym (same-row q b not-q (omega arith)) ∙ t))
       where
         not-b : testBit c b ≡ false
         not-b = is-false _ (λ s. d b s (inr (sym (bit-lo w′ q b hb) ∙ t)))
-
-        to : (r k : ℕ) → k < 128 → testBit c r ≡ false → I (Bits w′) r k → I (Bits w) r k
-        to r k l e s = sym (same-row r k e l) ∙ s
-
-        back : (r k : ℕ) → k < 128 → testBit c r ≡ false → I (Bits w) r k → I (Bits w′) r k
-        back r k l e s = same-row r k e l ∙ s
-
-        g : Nests m q b (Bits w)
-        g = f b hb (to q b (omega arith) not-q t)
 
   -- c₀ was owed for before, and c₁ has it and the rows that changed
   pub owed-on : (q c₀ c₁ : ℕ) → q < 64 → Among c₀ c₁ → Among c c₁ → Owed m w c₀ q → Owed m w′ c₁ q

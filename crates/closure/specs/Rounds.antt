@@ -6,7 +6,7 @@ use mathlib.Core.Path.{_∙_, _≡_, ap, sym}
 use native.Mathlib.Omega.{arith}
 use Rattle.closure.specs.Adds.{Adds, moves-complete, moves-sound}
 use Rattle.closure.specs.Cells.{Bits, at-word}
-use Rattle.closure.specs.Rules.{Closed, Complete, I, Moves, Row, Rows, Sound, Suspects, closed-rows, closed-suspects, movers-closed, sound-on}
+use Rattle.closure.specs.Rules.{Closed, Complete, I, Moves, Row, Rows, Sound, Suspects, closed-rows, closed-suspects, movers-closed, nests-same, sound-on}
 use Rattle.closure.specs.Total.{held, held-less}
 use Rattle.model.specs.Laws.Sets.{Narrow}
 use Rattle.model.specs.Tables.{bitAt, testBit}
@@ -63,11 +63,7 @@ close-end partners m w w′ N e S = record {
   inside = λ u i d. let i₁ = N .inside u i d in S .inside u i₁ (closed-suspects partners u m d (sound-on partners (Bits w) m u i₁ (N .sound)));
   closed = movers-closed partners (Bits w′) m
       (complete-on partners m (Bits w) (Bits w′) (λ a t ha ht q. back a (64 + t) ha (omega arith) q) (N .complete))
-      (λ p hp b hb pb. let r = N .rows p hp b hb (back p b hp (omega arith) pb) in record {
-        ins = λ a ha t q. to b a hb (omega arith) (r .ins a ha t (back p a hp (omega arith) q));
-        outs = λ a ha t q. to p a hp (omega arith) (r .outs a ha t (back b a hb (omega arith) q));
-        opens = λ t k hk q. to p k hp hk (r .opens t k hk (back b k hb hk q));
-      })
+      (λ p hp b hb pb. nests-same m p b (λ k. at p k hp) (λ k. at b k hb) (N .rows p hp b hb (back p b hp (omega arith) pb)))
       (S .closed);
 }
   where
@@ -76,6 +72,3 @@ close-end partners m w w′ N e S = record {
 
     back : (a k : ℕ) → a < 64 → k < 128 → I (Bits w′) a k → I (Bits w) a k
     back a k ha hk t = sym (at a k ha hk) ∙ t
-
-    to : (a k : ℕ) → a < 64 → k < 128 → I (Bits w) a k → I (Bits w′) a k
-    to a k ha hk t = at a k ha hk ∙ t

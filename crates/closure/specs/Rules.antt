@@ -43,10 +43,13 @@ Complete partners u m = (j a : ℕ) → Moves partners u j a → testBit (getD m
 
 -- ---- the rules by movers, for b in row p
 
--- what they ask of I
-pub record Nests (m : List ℕ) (p b : ℕ) (u : Set) : Type 0 where
+-- what those of in and out ask of I; and all three
+pub record Moved (m : List ℕ) (p b : ℕ) (u : Set) : Type 0 where
   pub ins : (a : ℕ) → a < 64 → testBit (getD m b 0) a ≡ true → I u p a → I u b a
   pub outs : (a : ℕ) → a < 64 → testBit (getD m (64 + b) 0) a ≡ true → I u b a → I u p a
+
+pub record Nests (m : List ℕ) (p b : ℕ) (u : Set) : Type 0 where
+  pub moved : Moved m p b u
   pub opens : testBit (getD m (128 + b) 0) p ≡ true → (k : ℕ) → k < 128 → I u b k → I u p k
 
 -- what they ask of S, if b is suspect
@@ -69,6 +72,16 @@ Suspects m u = (p b : ℕ) → p < 64 → b < 64 → I u p b → S u b → Taint
 pub record Decides (r : Bool) (P : Type 0) : Type 0 where
   pub holds : r ≡ true → P
   pub passes : P → r ≡ true
+
+-- they read no more of I than the rows p and b
+pub nests-same : (m : List ℕ) (p b : ℕ) {u v : Set} → ((k : ℕ) → k < 128 → v (128 * p + k) ≡ u (128 * p + k)) → ((k : ℕ) → k < 128 → v (128 * b + k) ≡ u (128 * b + k)) → Nests m p b u → Nests m p b v
+nests-same m p b x y g = record {
+  moved = record {
+    ins = λ a l t q. y a (omega arith) ∙ g .moved .ins a l t (sym (x a (omega arith)) ∙ q);
+    outs = λ a l t q. x a (omega arith) ∙ g .moved .outs a l t (sym (y a (omega arith)) ∙ q);
+  };
+  opens = λ t k l q. x k l ∙ g .opens t k l (sym (y k l) ∙ q);
+}
 
 -- ---- the two are the same
 
@@ -103,8 +116,7 @@ module _ (partners : List ℕ) (u : Set) (m : List ℕ) where
   pub closed-rows : Closed partners u → Sound partners u m → Rows m u
   unfolding Rows Row
   closed-rows c f p hp b hb pb = record {
-    ins = λ a ha t pa. of-in c f p b hp hb pb a ha t pa .0;
-    outs = λ a ha t ba. of-out c f p b hp hb pb a ha t ba .0;
+    moved = record { ins = λ a ha t pa. of-in c f p b hp hb pb a ha t pa .0; outs = λ a ha t ba. of-out c f p b hp hb pb a ha t ba .0 };
     opens = λ t. of-open c f p b hp hb pb t .0;
   }
 
@@ -121,9 +133,9 @@ module _ (partners : List ℕ) (u : Set) (m : List ℕ) where
   unfolding Rows Row Suspects Complete
   movers-closed f r s = record {
     ins = λ t a b p ht ha hb hp at pa pb e. let v = f b a (by-kind 0 b t b t (omega arith) hb ha ht (omega arith) (omega arith) at e) in
-        (r p hp b hb pb .ins a ha v pa, λ q. s p b hp hb pb q .ins a ha v pa);
+        (r p hp b hb pb .moved .ins a ha v pa, λ q. s p b hp hb pb q .ins a ha v pa);
     outs = λ t a b p ht ha hb hp at ba pb e. let v = f (64 + b) a (by-kind 1 b t (64 + b) (64 + t) (omega arith) hb ha ht (omega arith) (omega arith) at e) in
-        (r p hp b hb pb .outs a ha v ba, λ q. s p b hp hb pb q .outs a ha v ba);
+        (r p hp b hb pb .moved .outs a ha v ba, λ q. s p b hp hb pb q .outs a ha v ba);
     opens = λ t b p ht hb hp pt pb e. let v = f (128 + b) p (by-kind 2 b t (128 + b) (128 + t) (omega arith) hb hp ht (omega arith) (omega arith) pt e) in
         (r p hp b hb pb .opens v, λ q. s p b hp hb pb q .opens v);
   }

@@ -74,7 +74,7 @@ module _ (partners m : List ℕ) (u : Set) (sound : Sound partners u m) (complet
   pairs-closed : ((p : ℕ) → p < 64 → PairsAt m u p) → Closed partners u
   unfolding PairsAt Rows Row Suspects
   pairs-closed f = movers-closed partners u m complete
-      (λ p hp b hb pb. let r = f p hp b hb pb in record { ins = λ a l t s. r .moves .ins a l t s .0; outs = λ a l t s. r .moves .outs a l t s .0; opens = λ t. r .opens t .0 })
+      (λ p hp b hb pb. let r = f p hp b hb pb in record { moved = record { ins = λ a l t s. r .moves .ins a l t s .0; outs = λ a l t s. r .moves .outs a l t s .0 }; opens = λ t. r .opens t .0 })
       (λ p b hp hb pb sb. let r = f p hp b hb pb in record { ins = λ a l t s. r .moves .ins a l t s .1 sb; outs = λ a l t s. r .moves .outs a l t s .1 sb; opens = λ t. r .opens t .1 sb })
 
   closed-pairs : Closed partners u → (p : ℕ) → p < 64 → PairsAt m u p
@@ -83,7 +83,7 @@ module _ (partners m : List ℕ) (u : Set) (sound : Sound partners u m) (complet
       let r = closed-rows partners u m c sound p hp b hb pb in
       let s = closed-suspects partners u m c sound p b hp hb pb in
       record {
-        moves = record { ins = λ a l t q. (r .ins a l t q, λ sb. s sb .ins a l t q); outs = λ a l t q. (r .outs a l t q, λ sb. s sb .outs a l t q) };
+        moves = record { ins = λ a l t q. (r .moved .ins a l t q, λ sb. s sb .ins a l t q); outs = λ a l t q. (r .moved .outs a l t q, λ sb. s sb .outs a l t q) };
         opens = λ t. (r .opens t, λ sb. s sb .opens t);
       }
 

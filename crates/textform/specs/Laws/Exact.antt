@@ -15,11 +15,11 @@ use Rattle.model.specs.Laws.WellFormed.{and-right}
 use Rattle.model.specs.Listing.{digitsIn}
 use Rattle.model.specs.Records.{byte, encode, records}
 use Rattle.model.specs.Validity.{labelIn}
-use Rattle.textform.specs.Laws.Lines.{demand-good, digits-1, digits-2, digits-3, ended-good, line-parts, named-good, scan-bad, scan-good, scan-nested, tailBytes, worded-good}
+use Rattle.textform.specs.Laws.Lines.{demand-good, digits-1, digits-2, digits-3, ended-good, line-parts, named-good, scan-bad, scan-good, scan-nested, tailBytes, worded-by, worded-good}
 use Rattle.textform.specs.Laws.Nesting.{walk-placed}
 use Rattle.textform.specs.Laws.Scanning.{digit-inside, digit-low, numeral-cases}
-use Rattle.textform.specs.Lines.{ambientWord, inWord, kindWord, lineBytes, openWord, outWord, render}
-use Rattle.textform.specs.Reading.{before, digit, ended, labelled, lineRead, named, numeral, placed, scan, scanFrom, spaces, starts, unknownKind, worded}
+use Rattle.textform.specs.Lines.{kindWord, lineBytes, render}
+use Rattle.textform.specs.Reading.{before, digit, ended, labelled, lineRead, named, numeral, placed, scan, scanFrom, spaces, starts, worded}
 use Rattle.textform.specs.Writing.{textOf}
 use Rattle.textform.specs.declared.Line.{Line}
 use Rattle.textform.specs.declared.LineRead.{LineRead}
@@ -150,36 +150,18 @@ labelled-exact d k s {l} {left} e =
     }
 
 -- the same from the kind's word on
-word-exact : (d k : ℕ) (w s : List ℕ) {l : Line} {left : ℕ} → kindWord k ≡ w → starts w s ≡ true → Labelled d k (drop (length w) s) l left → (l .depth ≡ d) × (tailBytes l (drop (length s - left) s) ≡ s)
-unfolding tailBytes
-word-exact d k w s {l} {left} e t g = (
-  g .depth,
-  ap (λ x. kindWord x ++ (digitsIn 5 (l .label) ++ (32 ∷ (digitsIn 5 (l .name) ++ (10 ∷ drop (length s - left) s))))) (g .kind)
-      ∙ ap (λ x. x ++ (digitsIn 5 (l .label) ++ (32 ∷ (digitsIn 5 (l .name) ++ (10 ∷ drop (length s - left) s))))) e
-      ∙ ap (λ x. w ++ (digitsIn 5 (l .label) ++ (32 ∷ (digitsIn 5 (l .name) ++ (10 ∷ x))))) (sym (left-same (length w) s left (g .fewer)))
-      ∙ ap (λ x. w ++ x) (g .bytes)
-      ∙ starts-exact w s t,
-)
-
 worded-exact : (d : ℕ) (s : List ℕ) {l : Line} {left : ℕ} → worded d s ≡ Good l left → (l .depth ≡ d) × (tailBytes l (drop (length s - left) s) ≡ s)
-unfolding worded kindWord ambientWord inWord outWord openWord
-worded-exact d s {l} {left} e = first (starts ambientWord s) refl
-  where
-    fourth : (b : Bool) → starts openWord s ≡ b → elim b [ true ↦ labelled d 4 (drop 5 s) | false ↦ Bad unknownKind ] ≡ Good l left → (l .depth ≡ d) × (tailBytes l (drop (length s - left) s) ≡ s)
-    fourth true t q = word-exact d 4 openWord s refl t (labelled-exact d 4 (drop 5 s) q)
-    fourth false t q = let u : _≡_ {A = ℕ} 0 1 = cc in absurd (omega arith)
-
-    third : (b : Bool) → starts outWord s ≡ b → elim b [ true ↦ labelled d 3 (drop 4 s) | false ↦ elim (starts openWord s) [ true ↦ labelled d 4 (drop 5 s) | false ↦ Bad unknownKind ] ] ≡ Good l left → (l .depth ≡ d) × (tailBytes l (drop (length s - left) s) ≡ s)
-    third true t q = word-exact d 3 outWord s refl t (labelled-exact d 3 (drop 4 s) q)
-    third false t q = fourth (starts openWord s) refl q
-
-    second : (b : Bool) → starts inWord s ≡ b → elim b [ true ↦ labelled d 2 (drop 3 s) | false ↦ elim (starts outWord s) [ true ↦ labelled d 3 (drop 4 s) | false ↦ elim (starts openWord s) [ true ↦ labelled d 4 (drop 5 s) | false ↦ Bad unknownKind ] ] ] ≡ Good l left → (l .depth ≡ d) × (tailBytes l (drop (length s - left) s) ≡ s)
-    second true t q = word-exact d 2 inWord s refl t (labelled-exact d 2 (drop 3 s) q)
-    second false t q = third (starts outWord s) refl q
-
-    first : (b : Bool) → starts ambientWord s ≡ b → (l .depth ≡ d) × (tailBytes l (drop (length s - left) s) ≡ s)
-    first true t = word-exact d 1 ambientWord s refl t (labelled-exact d 1 (drop 8 s) (rw (t, worded) at e))
-    first false t = second (starts inWord s) refl (rw (t, worded) at e)
+unfolding tailBytes
+worded-exact d s {l} {left} e =
+    let b = worded-by d s e in
+    let w = kindWord (b .kind) in
+    let g = labelled-exact d (b .kind) (drop (length w) s) (b .after) in (
+      g .depth,
+      ap (λ x. kindWord x ++ (digitsIn 5 (l .label) ++ (32 ∷ (digitsIn 5 (l .name) ++ (10 ∷ drop (length s - left) s))))) (g .kind)
+          ∙ ap (λ x. w ++ (digitsIn 5 (l .label) ++ (32 ∷ (digitsIn 5 (l .name) ++ (10 ∷ x))))) (sym (left-same (length w) s left (g .fewer)))
+          ∙ ap (λ x. w ++ x) (g .bytes)
+          ∙ starts-exact w s (b .word),
+    )
 
 -- a line that is read is the line's bytes
 line-exact : (d : ℕ) (s : List ℕ) {l : Line} {left : ℕ} → lineRead d s ≡ Good l left → lineBytes l ++ drop (length s - left) s ≡ s

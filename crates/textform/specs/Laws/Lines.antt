@@ -228,25 +228,36 @@ labelled-good d k s {l} {left} x y e =
 got-past : (n : ℕ) (s : List ℕ) {d : ℕ} {l : Line} {left : ℕ} → Got d (drop n s) l left → Got d s l left
 got-past n s g = record { deep = g .deep; right = g .right; fewer = omega (arith, g .fewer, length-drop n s) }
 
-pub worded-good : (d : ℕ) (s : List ℕ) {l : Line} {left : ℕ} → worded d s ≡ Good l left → Got d s l left
-unfolding worded
-worded-good d s {l} {left} e = first (starts ambientWord s) refl
+-- the bytes s start with a kind's word, and what follows it was read
+pub record Worded (d : ℕ) (s : List ℕ) (l : Line) (left : ℕ) : Type 0 where
+  pub kind : ℕ
+  pub low : 1 ≤ kind
+  pub high : kind ≤ 4
+  pub word : starts (kindWord kind) s ≡ true
+  pub after : labelled d kind (drop (length (kindWord kind)) s) ≡ Good l left
+
+pub worded-by : (d : ℕ) (s : List ℕ) {l : Line} {left : ℕ} → worded d s ≡ Good l left → Worded d s l left
+unfolding worded kindWord ambientWord inWord outWord openWord
+worded-by d s {l} {left} e = first (starts ambientWord s) refl
   where
-    fourth : (b : Bool) → elim b [ true ↦ labelled d 4 (drop 5 s) | false ↦ Bad unknownKind ] ≡ Good l left → Got d s l left
-    fourth true q = got-past 5 s (labelled-good d 4 _ (omega arith) (omega arith) q)
-    fourth false q = let u : _≡_ {A = ℕ} 0 1 = cc in absurd (omega arith)
+    fourth : (b : Bool) → starts openWord s ≡ b → elim b [ true ↦ labelled d 4 (drop 5 s) | false ↦ Bad unknownKind ] ≡ Good l left → Worded d s l left
+    fourth true t q = record { kind = 4; low = omega arith; high = omega arith; word = t; after = q }
+    fourth false t q = let u : _≡_ {A = ℕ} 0 1 = cc in absurd (omega arith)
 
-    third : (b : Bool) → elim b [ true ↦ labelled d 3 (drop 4 s) | false ↦ elim (starts openWord s) [ true ↦ labelled d 4 (drop 5 s) | false ↦ Bad unknownKind ] ] ≡ Good l left → Got d s l left
-    third true q = got-past 4 s (labelled-good d 3 _ (omega arith) (omega arith) q)
-    third false q = fourth (starts openWord s) q
+    third : (b : Bool) → starts outWord s ≡ b → elim b [ true ↦ labelled d 3 (drop 4 s) | false ↦ elim (starts openWord s) [ true ↦ labelled d 4 (drop 5 s) | false ↦ Bad unknownKind ] ] ≡ Good l left → Worded d s l left
+    third true t q = record { kind = 3; low = omega arith; high = omega arith; word = t; after = q }
+    third false t q = fourth (starts openWord s) refl q
 
-    second : (b : Bool) → elim b [ true ↦ labelled d 2 (drop 3 s) | false ↦ elim (starts outWord s) [ true ↦ labelled d 3 (drop 4 s) | false ↦ elim (starts openWord s) [ true ↦ labelled d 4 (drop 5 s) | false ↦ Bad unknownKind ] ] ] ≡ Good l left → Got d s l left
-    second true q = got-past 3 s (labelled-good d 2 _ (omega arith) (omega arith) q)
-    second false q = third (starts outWord s) q
+    second : (b : Bool) → starts inWord s ≡ b → elim b [ true ↦ labelled d 2 (drop 3 s) | false ↦ elim (starts outWord s) [ true ↦ labelled d 3 (drop 4 s) | false ↦ elim (starts openWord s) [ true ↦ labelled d 4 (drop 5 s) | false ↦ Bad unknownKind ] ] ] ≡ Good l left → Worded d s l left
+    second true t q = record { kind = 2; low = omega arith; high = omega arith; word = t; after = q }
+    second false t q = third (starts outWord s) refl q
 
-    first : (b : Bool) → starts ambientWord s ≡ b → Got d s l left
-    first true q = got-past 8 s (labelled-good d 1 _ (omega arith) (omega arith) (rw (q, worded) at e))
-    first false q = second (starts inWord s) (rw (q, worded) at e)
+    first : (b : Bool) → starts ambientWord s ≡ b → Worded d s l left
+    first true t = record { kind = 1; low = omega arith; high = omega arith; word = t; after = rw (t, worded) at e }
+    first false t = second (starts inWord s) refl (rw (t, worded) at e)
+
+pub worded-good : (d : ℕ) (s : List ℕ) {l : Line} {left : ℕ} → worded d s ≡ Good l left → Got d s l left
+worded-good d s e = let w = worded-by d s e in got-past (length (kindWord (w .kind))) s (labelled-good d (w .kind) _ (w .low) (w .high) (w .after))
 
 pub line-good : (d : ℕ) (s : List ℕ) {l : Line} {left : ℕ} → lineRead d s ≡ Good l left → Got d s l left
 unfolding lineRead
