@@ -1,4 +1,4 @@
-//! The six buffers of the calls, and rooms with guard bytes to lend them in.
+//! The six buffers of the calls and the screen's label, and rooms with guards to lend them in.
 
 /// What is lent to a call; a call uses some of them.
 #[derive(Clone, Debug, Default, PartialEq, Eq)]
@@ -9,6 +9,7 @@ pub struct Buffers {
     pub script: Vec<u8>,
     pub answers: Vec<u8>,
     pub sheet: Vec<u8>,
+    pub label: u16,
 }
 
 pub const NAMES: [&str; 6] = ["itinerary", "policy", "table", "script", "answers", "sheet"];
@@ -61,7 +62,23 @@ impl Room {
     }
 }
 
-/// The rooms of all six buffers.
+/// A number with a guard number on both sides.
+pub struct Cell {
+    numbers: [u16; 3],
+    guard: u16,
+}
+
+impl Cell {
+    fn load(&mut self, content: u16, guard: u16) {
+        *self = Cell { numbers: [guard, content, guard], guard };
+    }
+
+    pub fn content_mut(&mut self) -> &mut u16 {
+        &mut self.numbers[1]
+    }
+}
+
+/// The rooms of all six buffers, and the label's.
 pub struct Rooms {
     pub itinerary: Room,
     pub policy: Room,
@@ -69,6 +86,7 @@ pub struct Rooms {
     pub script: Room,
     pub answers: Room,
     pub sheet: Room,
+    pub label: Cell,
 }
 
 impl Rooms {
@@ -80,6 +98,7 @@ impl Rooms {
             script: Room::new(),
             answers: Room::new(),
             sheet: Room::new(),
+            label: Cell { numbers: [0; 3], guard: 0 },
         }
     }
 
@@ -93,6 +112,7 @@ impl Rooms {
         self.script.load(&buffers.script, shift(3), guard);
         self.answers.load(&buffers.answers, shift(4), guard);
         self.sheet.load(&buffers.sheet, shift(5), guard);
+        self.label.load(buffers.label, u16::from(guard));
     }
 
     fn all(&self) -> [&Room; 6] {
@@ -109,6 +129,10 @@ impl Rooms {
             if !room.is_guarded() {
                 found.push(format!("{name}: a guard byte was changed"));
             }
+        }
+        let wanted = [self.label.guard, expected.label, self.label.guard];
+        if self.label.numbers != wanted {
+            found.push(format!("guard, label, guard are {:?}\n  not {wanted:?}", self.label.numbers));
         }
         found
     }

@@ -40,8 +40,8 @@ pub type Answer = [u16; 8];
 
 /// The simulator's call.
 pub fn simulate(call: Call, lent: &mut Buffers) -> Answer {
-    let Buffers { itinerary, policy, table, script, answers, sheet } = lent;
-    let answer = match call {
+    let Buffers { itinerary, policy, table, script, answers, sheet, label } = lent;
+    let mut answer = match call {
         Call::Validate => simulator::validate(itinerary),
         Call::Container(number) => simulator::container(itinerary, number),
         Call::Sheet => simulator::sheet(itinerary, table, sheet),
@@ -53,6 +53,11 @@ pub fn simulate(call: Call, lent: &mut Buffers) -> Answer {
         Call::Row(label) => simulator::row(table, u16::from(label)),
         Call::Screen => simulator::screen(itinerary, policy, script, answers),
     };
+    // The simulator's screen gives verdict and label in one value.
+    if call == Call::Screen && answer.number == 0 {
+        *label = answer.values[0] % 256;
+        answer.values[0] /= 256;
+    }
     let [v0, v1, v2, v3, v4, v5] = answer.values;
     [u16::from(answer.number), answer.record, v0, v1, v2, v3, v4, v5]
 }
@@ -68,11 +73,11 @@ macro_rules! enter {
     (@ $entry:ident, [$a:expr, $b:expr, $c:expr], []) => {
         unsafe { raw::$entry($a.as_mut_ptr(), $a.len(), $b.as_mut_ptr(), $b.len(), $c.as_mut_ptr(), $c.len()) }
     };
-    (@ $entry:ident, [$a:expr, $b:expr, $c:expr, $d:expr], []) => {
+    (@ $entry:ident, [$a:expr, $b:expr, $c:expr, $d:expr], [$n:expr]) => {
         unsafe {
             raw::$entry(
                 $a.as_mut_ptr(), $a.len(), $b.as_mut_ptr(), $b.len(),
-                $c.as_mut_ptr(), $c.len(), $d.as_mut_ptr(), $d.len(),
+                $c.as_mut_ptr(), $c.len(), $d.as_mut_ptr(), $d.len(), $n,
             )
         }
     };
@@ -94,7 +99,7 @@ pub fn enter(call: Call, lent: &mut Rooms) -> Answer {
         Call::Make => enter!(hub_make, it, policy, table),
         Call::Verdict => enter!(hub_verdict, it, policy, table),
         Call::Row(label) => enter!(hub_row, table; label),
-        Call::Screen => enter!(hub_screen, it, policy, script, answers),
+        Call::Screen => enter!(hub_screen, it, policy, script, answers; lent.label.content_mut()),
     };
     [r.number, r.at, r.v0, r.v1, r.v2, r.v3, r.v4, r.v5]
 }
@@ -114,7 +119,10 @@ pub fn enter_safely(call: Call, lent: &mut Rooms) -> Answer {
         Call::Make => birnsket::make(it, policy, table).map(|ones| vec![ones]),
         Call::Verdict => birnsket::verdict(it, policy, table).map(|v| vec![code(v).0, code(v).1]),
         Call::Row(label) => Ok(part(table, birnsket::row(table, label))),
-        Call::Screen => birnsket::screen(it, policy, script, answers).map(shown),
+        Call::Screen => birnsket::screen(it, policy, script, answers).map(|screen| {
+            *lent.label.content_mut() = code(screen.verdict).1;
+            shown(screen)
+        }),
     };
     packed(done)
 }
@@ -133,9 +141,8 @@ fn part(table: &[u8], row: &[u8]) -> Vec<u16> {
 }
 
 fn shown(screen: birnsket::Screen) -> Vec<u16> {
-    let (verdict, label) = code(screen.verdict);
     let counts = screen.counts;
-    vec![256 * verdict + label, screen.ones, counts.ins, counts.outs, counts.opens, screen.left]
+    vec![code(screen.verdict).0, screen.ones, counts.ins, counts.outs, counts.opens, screen.left]
 }
 
 fn packed(done: Result<Vec<u16>, Refusal>) -> Answer {

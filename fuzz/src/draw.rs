@@ -115,7 +115,7 @@ impl Case {
         spoil(random, &mut bytes);
         let sheet = vec![random.byte(); bytes.len()];
         let first = bytes.clone();
-        let buffers = Buffers { itinerary: bytes, policy, table, script, answers, sheet };
+        let buffers = Buffers { itinerary: bytes, policy, table, script, answers, sheet, label: 0 };
         Case { buffers, first, relabel }
     }
 

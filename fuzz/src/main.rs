@@ -32,6 +32,8 @@ fn arguments() -> Option<(u64, u64)> {
 
 /// Makes the call on both sides; leaves the buffers as after it, or says what differs.
 fn compare(call: Call, lent: &mut Buffers, rooms: &mut Rooms, noise: u64) -> Result<Answer, String> {
+    // No label is over 63, so that one not written is seen, and so is one written by a refusal.
+    lent.label = noise as u16 | 0x100;
     let mut expected = lent.clone();
     let wanted = simulate(call, &mut expected);
     rooms.load(lent, noise);

@@ -18,8 +18,7 @@ impl Tally {
             return;
         }
         match call {
-            Call::Verdict => self.verdicts[usize::from(answer[2])] += 1,
-            Call::Screen => self.verdicts[usize::from(answer[2] / 256)] += 1,
+            Call::Verdict | Call::Screen => self.verdicts[usize::from(answer[2])] += 1,
             _ => {}
         }
         if matches!(call, Call::Run | Call::Screen) {

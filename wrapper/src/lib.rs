@@ -16,7 +16,8 @@ pub const POLICY_LENGTH: usize = 64;
 pub const TABLE_LENGTH: usize = 1544;
 
 // Every block below is sound for one reason: the pointers and lengths are those of
-// live slices, and the borrows keep written ones apart from all others.
+// live slices (the screen's label is a local), and the borrows keep written ones
+// apart from all others.
 
 /// The number of records, or a refusal from 1 to 6.
 pub fn validate(itinerary: &[u8]) -> Result<u16, Refusal> {
@@ -128,6 +129,7 @@ pub fn screen(
     script: &[u8],
     answers: &mut [u8],
 ) -> Result<Screen, Refusal> {
+    let mut label = 0;
     let result = unsafe {
         raw::hub_screen(
             itinerary.as_mut_ptr(),
@@ -138,11 +140,12 @@ pub fn screen(
             script.len(),
             answers.as_mut_ptr(),
             answers.len(),
+            &mut label,
         )
     };
     let done = result.done()?;
     Ok(Screen {
-        verdict: Verdict::of(done.v0 / 256, (done.v0 % 256) as u8),
+        verdict: Verdict::of(done.v0, label as u8),
         ones: done.v1,
         counts: Counts { ins: done.v2, outs: done.v3, opens: done.v4 },
         left: done.v5,

@@ -73,5 +73,6 @@ extern "C" {
         script_len: usize,
         answers: BytesMut,
         answers_len: usize,
+        label: *mut u16,
     ) -> HubResult;
 }

@@ -90,6 +90,33 @@ fn example_b_script() {
     assert_eq!(run(&mut bytes(&B), &script, &mut [7]), Err(refusal(13, 0)));
 }
 
+/// Number and v0 of the entry itself on B: the wrapper doesn't show what a refusal leaves in the label.
+fn enter_screen(policy: &[u8], label: &mut u16) -> (u16, u16) {
+    let (mut itinerary, script, mut answers): (_, [u8; 0], [u8; 0]) = (bytes(&B), [], []);
+    let result = unsafe {
+        raw::hub_screen(
+            itinerary.as_mut_ptr(),
+            itinerary.len(),
+            policy.as_ptr(),
+            policy.len(),
+            script.as_ptr(),
+            script.len(),
+            answers.as_mut_ptr(),
+            answers.len(),
+            label,
+        )
+    };
+    (result.number, result.v0)
+}
+
+#[test]
+fn example_b_label() {
+    let mut label = 777;
+    assert_eq!((enter_screen(&[0; 63], &mut label), label), ((7, 0), 777));
+    assert_eq!((enter_screen(&usual(), &mut label), label), ((0, 1), 2));
+    assert_eq!((enter_screen(&[0; 64], &mut label), label), ((0, 3), 0));
+}
+
 #[test]
 fn example_c() {
     let records = [A[0], A[1], (4, 64, 1, 1), (1, 3, 2, 3), (3, 65, 0, 4)];

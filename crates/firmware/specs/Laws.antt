@@ -1,5 +1,5 @@
--- The screen's values; the row entry: a row is there exactly where the row request hands back 16 bytes.
-use Prim.Native.Nat.{_*_, _+_, _≤_, ℕ}
+-- The row entry: a row is there exactly where the row request hands back 16 bytes.
+use Prim.Native.Nat.{_*_, _≤_, ℕ}
 use borrow.Author.Tests.{eqb-true, leb-true}
 use lib.Dec.{eqb, leb}
 use lib.ListN.{drop, length, length-drop, take}
@@ -9,11 +9,9 @@ use mathlib.Core.List.{List}
 use mathlib.Core.Logic.{_≢_}
 use mathlib.Core.Path.{_∙_, _≡_, ap, refl}
 use native.Mathlib.Omega.{arith}
-use Rattle.firmware.specs.Packing.{rowBy, rows, screens, values, verdictCode}
+use Rattle.firmware.specs.Packing.{rowBy, rows, values}
 use Rattle.model.specs.Laws.WellFormed.{and-left, and-right}
 use Rattle.model.specs.Tables.{partIf, rowOf, tableSized}
-use Rattle.model.specs.Verdicts.{labelOf}
-use Rattle.model.specs.declared.Screen.{Screen}
 
 module _ (table : List ℕ) (label : ℕ) where
   row-by : (t : Bool) → (tableSized table && leb label 63) ≡ t → length (rowOf table label) ≡ length (partIf t (take 16 (drop (16 * label) table)))
@@ -41,9 +39,3 @@ module _ (table : List ℕ) (label : ℕ) where
       go : (t : Bool) → (tableSized table && leb label 63) ≡ t → values 0 0 0 0 0 0 ≡ rowBy t label
       go true e = absurd (h (row-by true e ∙ full e))
       go false e = refl
-
--- the screen's values, from the verdict's code and label
-pub screens-as : (x : Screen) (a b : ℕ) → a ≡ verdictCode (x .verdict) → b ≡ labelOf (x .verdict) →
-    values (256 * a + b) (x .ones) (x .counts .ins) (x .counts .outs) (x .counts .opens) (x .left) ≡ screens x
-unfolding screens
-screens-as x a b p q = rw (p, q)

@@ -9,11 +9,10 @@ use model::Screened;
 use model::Validated;
 use model::Verdict;
 ghost use mathlib.Core.Path.{_≡_};
-ghost use Prim.Native.Nat.{_≤_};
 ghost use Rattle.model.specs.Calls.{checkAnswer, containerAnswer, makeAfter, makeAnswer, runAfter, runAnswer, runAnswers, screenAfter, screenAnswer, screenAnswers, sheetAfter, sheetAnswer, stepAfter, stepAnswer, validateAnswer, verdictAnswer};
 ghost use Rattle.model.specs.Numbers.{containedAs, judgedAs, madeAs, performedAs, ranAs, screenedAs, validatedAs};
 ghost use Rattle.model.specs.Verdicts.{labelOf};
-ghost use Rattle.firmware.specs.Packing.{bare, counts, packed, refusalOf, rows, screens, single, values, verdictCode, verdicts};
+ghost use Rattle.firmware.specs.Packing.{bare, counts, labelAfter, packed, refusalOf, rows, screens, single, values, verdictCode, verdicts};
 
 // An answer: number 0 and up to six values where the call is done; the refusal's number and record where it is refused.
 #[repr(C)]
@@ -104,7 +103,7 @@ fn made(x: Made) -> HubResult
 }
 
 fn verdict_code(v: Verdict) -> u16
-    ensures { λ r. ⌜ (r ≡ verdictCode v) × (r ≤ 3) ⌝ }
+    ensures { λ r. ⌜ r ≡ verdictCode v ⌝ }
 {
     match v {
         Verdict::Exposed(_) => 1,
@@ -132,17 +131,18 @@ fn judged(x: Judged) -> HubResult
     }
 }
 
-fn screened(x: Screened) -> HubResult
-    ensures { λ r. ⌜ r ≡ packed screens (screenedAs x) ⌝ }
+fn screened(x: Screened, label: &mut u16) -> HubResult
+    ensures { λ r. ⌜ (r ≡ packed screens (screenedAs x)) × (now (label .exit) ≡ labelAfter (screenedAs x) (now (label .entry))) ⌝ }
 {
     match x {
         Screened::Done(s) => {
             let v = s.verdict;
             let c = s.counts;
+            *label = verdict_label(v) as u16;
             HubResult {
                 number: 0,
                 at: 0,
-                v0: 256 * verdict_code(v) + (verdict_label(v) as u16),
+                v0: verdict_code(v),
                 v1: s.ones,
                 v2: c.ins,
                 v3: c.outs,
@@ -236,18 +236,20 @@ pub extern "C" fn hub_row(table: &[u8], label: u8) -> HubResult
     done(0, 0, 0)
 }
 
-// Makes the table, gives its verdict and runs the script; v0 is 256 times the verdict's number plus its label, v1 the
-// bits set, v2, v3 and v4 the ins, outs and opens done, v5 the records not gone.
+// Makes the table, gives its verdict and runs the script; v0 is the verdict as in hub_verdict, v1 the bits set, v2, v3
+// and v4 the ins, outs and opens done, v5 the records not gone. `label` becomes the verdict's label.
 #[no_mangle]
 pub extern "C" fn hub_screen(
     it: &mut [u8],
     policy: &[u8],
     script: &[u8],
     answers: &mut [u8],
+    label: &mut u16,
 ) -> HubResult
     ensures { λ r. ⌜ (r ≡ packed screens (screenAnswer (now (it .entry)) (now (policy .entry)) (now (script .entry)) (now (answers .entry))))
         × (now (it .exit) ≡ screenAfter (now (it .entry)) (now (policy .entry)) (now (script .entry)) (now (answers .entry)))
-        × (now (answers .exit) ≡ screenAnswers (now (it .entry)) (now (policy .entry)) (now (script .entry)) (now (answers .entry))) ⌝ }
+        × (now (answers .exit) ≡ screenAnswers (now (it .entry)) (now (policy .entry)) (now (script .entry)) (now (answers .entry)))
+        × (now (label .exit) ≡ labelAfter (screenAnswer (now (it .entry)) (now (policy .entry)) (now (script .entry)) (now (answers .entry))) (now (label .entry))) ⌝ }
 {
-    screened(screen::screen(it, policy, script, answers))
+    screened(screen::screen(it, policy, script, answers), label)
 }

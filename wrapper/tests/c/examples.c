@@ -66,6 +66,7 @@ static void example_b(void)
     const uint8_t after[sizeof it] = {1, 1, 0, 0, 0, 0, 0, 0, 1, 2, 1};
     const uint8_t script[] = {3, 0, 1, 0, 3, 0, 1, 0};
     uint8_t work[sizeof it], answers[2] = {7, 7};
+    uint16_t label = 777;
     HubResult r = hub_make(it, sizeof it, usual, sizeof usual, table, sizeof table);
     expect("B has seven bits", is_done(r) && r.v0 == 7);
     r = hub_verdict(it, sizeof it, usual, sizeof usual, table, sizeof table);
@@ -79,8 +80,12 @@ static void example_b(void)
     expect("B: the run's answers", answers[0] == 0 && answers[1] == HUB_ACTOR);
     expect("B: the run's itinerary", memcmp(work, after, sizeof it) == 0);
     memcpy(work, it, sizeof it);
-    r = hub_screen(work, sizeof work, usual, sizeof usual, script, sizeof script, answers, sizeof answers);
-    expect("B: the screen's verdict and bits", is_done(r) && r.v0 == 256 * HUB_EXPOSED + 2 && r.v1 == 7);
+    r = hub_screen(work, sizeof work, usual, 63, script, sizeof script, answers, sizeof answers, &label);
+    expect("B: a refused screen", is_refused(r, HUB_POLICY, 0) && memcmp(work, it, sizeof it) == 0);
+    expect("B: a refused screen leaves the label", label == 777);
+    r = hub_screen(work, sizeof work, usual, sizeof usual, script, sizeof script, answers, sizeof answers, &label);
+    expect("B: the screen's verdict and bits", is_done(r) && r.v0 == HUB_EXPOSED && r.v1 == 7);
+    expect("B: the screen's label", label == 2);
     expect("B: the screen's counts", r.v2 == 0 && r.v3 == 1 && r.v4 == 0 && r.v5 == 2);
     r = hub_run(work, sizeof work, script, sizeof script, answers, 1);
     expect("B: too few answers", is_refused(r, HUB_SCRIPT, 0));

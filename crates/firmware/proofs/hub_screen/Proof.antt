@@ -18,7 +18,9 @@ same-length-2 : tie.Need-same-length-2
 same-length-2 c = search needs
 
 returns : tie.Need-returns
-returns c = (c .screened .ensures ∙ ap (packed screens) (c .before .before .before .before .before .screen .ensures .0), c .before .before .before .before .before .screen .ensures .1, c .before .before .before .before .before .screen .ensures .2)
+returns c =
+    let known = c .before .before .before .before .before .before .screen .ensures in
+    (c .screened .ensures .0 ∙ ap (packed screens) (known .0), known .1, known .2, rw (c .screened .ensures .1, known .0))
 
 pub hub-screen-spec : {M : Type 1} → statement M
 hub-screen-spec =

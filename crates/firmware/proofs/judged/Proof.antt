@@ -29,7 +29,7 @@ refused-requires c κs = search needs
 
 returns : tie.Need-returns
 unfolding packed judgedAs verdicts
-returns c = c .done .ensures ∙ ap₂ (λ a b. values a b 0 0 0 0) (c .before .before .verdict-code .ensures .0) (c .before .verdict-label .ensures) ∙ sym (ap (λ y. packed verdicts (judgedAs y)) (c .before .before .before .before .x .given .1))
+returns c = c .done .ensures ∙ ap₂ (λ a b. values a b 0 0 0 0) (c .before .before .verdict-code .ensures) (c .before .verdict-label .ensures) ∙ sym (ap (λ y. packed verdicts (judgedAs y)) (c .before .before .before .before .x .given .1))
 
 returns-2 : tie.Need-returns-2
 unfolding packed judgedAs refusal

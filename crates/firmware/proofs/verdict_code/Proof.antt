@@ -1,6 +1,5 @@
 -- `firmware::verdict_code` meets its contract. By the verdict's case.
 use Rattle.firmware.specs.Packing.{verdictCode}
-use native.Mathlib.Omega.{arith}
 use mathlib.Core.Path.{sym, ap}
 use borrow.Author.Needs.{needs}
 use Rattle.firmware.proofs.verdict_code.Statement.{statement}
@@ -17,15 +16,15 @@ enum-told-3 c = search needs
 
 returns : tie.Need-returns
 unfolding verdictCode
-returns c = (sym (ap verdictCode (c .enum-told .given .1)), omega arith)
+returns c = sym (ap verdictCode (c .enum-told .given .1))
 
 returns-2 : tie.Need-returns-2
 unfolding verdictCode
-returns-2 c = (sym (ap verdictCode (c .enum-told2 .given .1)), omega arith)
+returns-2 c = sym (ap verdictCode (c .enum-told2 .given .1))
 
 returns-3 : tie.Need-returns-3
 unfolding verdictCode
-returns-3 c = (sym (ap verdictCode (c .enum-told3 .given .1)), omega arith)
+returns-3 c = sym (ap verdictCode (c .enum-told3 .given .1))
 
 pub verdict-code-spec : {M : Type 1} → statement M
 verdict-code-spec =
