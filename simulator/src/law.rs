@@ -19,18 +19,21 @@ pub enum Law {
     SkipAEqualsB,
     /// The open rule asks for the ambient labels of row b only.
     OpenAmbientsOnly,
+    /// Only active capabilities have rules.
+    OnlyActiveCapabilities,
     /// A partner that is no ambient is answered by 13, an unfit ambient by 12.
     PartnerNotAmbientDiffers,
 }
 
 /// Every change with the name it has on the command line.
-pub const CHANGES: [(&str, Law); 7] = [
+pub const CHANGES: [(&str, Law); 8] = [
     ("no-suspect-in", Law::NoSuspectIn),
     ("no-suspect-out", Law::NoSuspectOut),
     ("no-suspect-open", Law::NoSuspectOpen),
     ("p-never-0", Law::PNever0),
     ("skip-a-equals-b", Law::SkipAEqualsB),
     ("open-ambients-only", Law::OpenAmbientsOnly),
+    ("only-active-capabilities", Law::OnlyActiveCapabilities),
     ("partner-not-ambient-differs", Law::PartnerNotAmbientDiffers),
 ];
 

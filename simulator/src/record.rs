@@ -132,6 +132,11 @@ impl Itinerary {
         found
     }
 
+    /// Whether all records above are ambients; a capability is then active.
+    pub fn is_under_ambients(&self, number: u16) -> bool {
+        self.above(number).into_iter().all(|above| self.is_ambient(above))
+    }
+
     /// The label of the nearest ambient above, or 0.
     pub fn container(&self, number: u16) -> u8 {
         let above = self.above(number);

@@ -9,7 +9,7 @@ pub fn answer(law: Law, itinerary: &Itinerary, actor: u16, partner: u16) -> u8 {
     if !c.kind.is_capability() {
         return 10;
     }
-    if !itinerary.above(actor).into_iter().all(|above| itinerary.is_ambient(above)) {
+    if !itinerary.is_under_ambients(actor) {
         return 11;
     }
     if c.kind != Kind::Open && !itinerary.is_ambient(c.parent) {

@@ -84,10 +84,18 @@ impl Table {
 /// The capabilities of some itineraries as the rules see them, each once.
 type Orders = BTreeSet<(Kind, u8, u8)>;
 
-fn orders(itineraries: &[&Itinerary]) -> Orders {
-    let records = itineraries.iter().flat_map(|itinerary| &itinerary.records);
-    let capabilities = records.filter(|record| record.kind.is_capability());
-    capabilities.map(|record| (record.kind, record.label, record.name)).collect()
+fn orders(law: Law, itineraries: &[&Itinerary]) -> Orders {
+    let mut orders = Orders::new();
+    for itinerary in itineraries {
+        for number in itinerary.numbers() {
+            let record = itinerary.records[number as usize - 1];
+            let passed_over = law == Law::OnlyActiveCapabilities && !itinerary.is_under_ambients(number);
+            if record.kind.is_capability() && !passed_over {
+                orders.insert((record.kind, record.label, record.name));
+            }
+        }
+    }
+    orders
 }
 
 /// What must be in the table without any rule: nesting, names, high labels.
@@ -189,13 +197,13 @@ fn add_by_rules(law: Law, orders: &Orders, table: &mut Table) {
 pub fn holds(law: Law, itinerary: &Itinerary, policy: &Policy, table: &Table) -> bool {
     let mut more = table.clone();
     add_starting_bits(&[itinerary], policy, &mut more);
-    add_by_rules(law, &orders(&[itinerary]), &mut more);
+    add_by_rules(law, &orders(law, &[itinerary]), &mut more);
     more == *table
 }
 
 /// The least table above `start` that holds for all of these itineraries.
 pub fn close(law: Law, itineraries: &[&Itinerary], policy: &Policy, start: &Table) -> Table {
-    let orders = orders(itineraries);
+    let orders = orders(law, itineraries);
     let mut table = start.clone();
     add_starting_bits(itineraries, policy, &mut table);
     loop {
