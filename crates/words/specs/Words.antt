@@ -133,9 +133,25 @@ fill-next f t i v h g e k l =
     (λ m. getD-set-other t i k v 0 (λ p. lt-irrefl i (subst (λ (x : ℕ). x < i) p m)) ∙ g k m)
     (eq-or-lt-of-le (le-of-suc-le-suc (subst (λ (y : ℕ). k < y) (add-one i) l)))
 
+-- the first n bytes of t are those of the words w
+unfoldable pub Stored : List ℕ → ℕ → List ℕ → Type 0
+Stored w n t = (i : ℕ) → i < n → getD t i 0 ≡ getD w (i / 8) 0 / 2 ^ (8 * (i % 8)) % 2 ^ 8
+
+pub stored-none : (w t : List ℕ) → Stored w 0 t
+unfolding Stored
+stored-none w t i l = absurd (not-suc-le-zero l)
+
+-- byte k of word i as well
+pub stored-next : (w t : List ℕ) (i k v : ℕ) → 8 * i + k < length t → k < 8 → Stored w (8 * i + k) t → v ≡ getD w i 0 / 2 ^ (8 * k) % 2 ^ 8 → Stored w (8 * i + (k + 1)) (set t (8 * i + k) v)
+unfolding Stored
+stored-next w t i k v l h s e j m =
+    let q : (8 * i + k) / 8 ≡ i = omega arith in
+    let r : (8 * i + k) % 8 ≡ k = omega arith in
+    fill-next (λ n. getD w (n / 8) 0 / 2 ^ (8 * (n % 8)) % 2 ^ 8) t (8 * i + k) v l s (e ∙ sym (ap₂ (λ (x y : ℕ). getD w x 0 / 2 ^ (8 * y) % 2 ^ 8) q r)) j (omega arith)
+
 -- bytes that are the words'
-pub stored : (n : ℕ) (w t : List ℕ) → length w ≡ n → length t ≡ n * 8 → ((i : ℕ) → i < n * 8 → getD t i 0 ≡ getD w (i / 8) 0 / 2 ^ (8 * (i % 8)) % 2 ^ 8) → bitAt 8 t ≡ bitAt 64 w
-unfolding bitAt
+pub stored : (n : ℕ) (w t : List ℕ) → length w ≡ n → length t ≡ n * 8 → Stored w (n * 8) t → bitAt 8 t ≡ bitAt 64 w
+unfolding bitAt Stored
 stored n w t e f g = fun-ext (λ j. go j (decLt (j / 8) (n * 8)))
   where
     go : (j : ℕ) → Dec (j / 8 < n * 8) → testBit (getD t (j / 8) 0) (j % 8) ≡ testBit (getD w (j / 64) 0) (j % 64)

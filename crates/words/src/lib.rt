@@ -1,9 +1,9 @@
 // A table's bytes as 193 words of 64 bits, and back.
 ghost use mathlib.Core.Path.{_≡_};
-ghost use Prim.Native.Nat.{_+_, _≤_};
+ghost use Prim.Native.Nat.{_+_, _*_, _<_, _≤_};
 ghost use lib.ListN.{length, take, drop};
 ghost use Rattle.model.specs.Tables.{bitAt, bits};
-ghost use Rattle.words.specs.Words.{value};
+ghost use Rattle.words.specs.Words.{Stored, value};
 
 // The eight bytes from `at` as a word. (inner)
 fn word(t: &[u8], at: usize) -> u64
@@ -34,15 +34,31 @@ pub fn load(w: &mut [u64], t: &[u8])
     }
 }
 
+// The bytes of word i, after those of the words before it. (inner) A word's bytes go together: one store, compiled.
+fn put_word(t: &mut [u8], w: &[u64], i: usize)
+    requires { ⌜ length (now w) ≡ 193 ⌝ }
+    requires { ⌜ length (now t) ≡ 1544 ⌝ }
+    requires { ⌜ i < 193 ⌝ }
+    requires { ⌜ Stored (now w) (8 * i) (now t) ⌝ }
+    ensures { λ _. ⌜ Stored (now (w .entry)) (8 * i + 8) (now (t .exit)) ⌝ }
+{
+    let v = w[i];
+    let mut k: usize = 0;
+    while k < 8 {
+        t[8 * i + k] = ((v >> (8 * k)) % 256) as u8;
+        k += 1;
+    }
+}
+
 // The words' bits as a table. (inner)
 pub fn store(t: &mut [u8], w: &[u64])
     requires { ⌜ length (now w) ≡ 193 ⌝ }
     requires { ⌜ length (now t) ≡ 1544 ⌝ }
     ensures { λ _. ⌜ bits (now (t .exit)) ≡ bitAt 64 (now (w .entry)) ⌝ }
 {
-    let mut i: usize = 0;
-    while i < 1544 {
-        t[i] = ((w[i / 8] >> (8 * (i % 8))) % 256) as u8;
-        i += 1;
+    let mut n: usize = 0;
+    while n < 193 {
+        put_word(t, w, n);
+        n += 1;
     }
 }
