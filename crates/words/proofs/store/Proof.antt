@@ -20,7 +20,7 @@ put-word-requires : tie.Need-put-word-requires Inv-loop μ-loop
 put-word-requires c κs =
     let s = c .before .before .before .before .before in
     let l = c .before .before .loop in
-    (s .pre .0, (l .inv .0 ∙ s .pre .1, (c .before .loop-test .taken, l .inv .2)))
+    (s .pre .0, (l .inv .0 ∙ s .pre .1, (omega arith, l .inv .2)))
 
 add-n : tie.Need-add-n Inv-loop μ-loop
 add-n c = omega arith
