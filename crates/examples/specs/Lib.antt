@@ -2,4 +2,5 @@
 pub mod Claims
 pub mod Listed
 pub mod Proofs
+pub mod Published
 pub mod Witness

@@ -24,3 +24,8 @@ pub mod Lists
 pub mod Secrecy
 pub mod Conservation
 pub mod Made
+pub mod Readings
+pub mod Moves
+pub mod Reductions
+pub mod Chains
+pub mod Adequacy

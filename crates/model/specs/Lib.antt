@@ -16,4 +16,5 @@ pub mod Calls
 pub mod Numbers
 pub mod Listing
 pub mod Noninterference
+pub mod Processes
 pub mod Laws

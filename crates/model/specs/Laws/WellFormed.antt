@@ -144,10 +144,10 @@ pub same-nested : {r r′ : Rec} → SameBut r r′ → nested r′ ≡ nested r
 unfolding nested
 same-nested s = rw (s .kind)
 
-same-of : {r r′ : Rec} → r′ ≡ r → SameBut r r′
+pub same-of : {r r′ : Rec} → r′ ≡ r → SameBut r r′
 same-of e = record { kind = ap (λ r. r .kind) e; label = ap (λ r. r .label) e; name = ap (λ r. r .name) e }
 
-same-to : {r r′ : Rec} (q : ℕ) → r′ ≡ to q r → SameBut r r′
+pub same-to : {r r′ : Rec} (q : ℕ) → r′ ≡ to q r → SameBut r r′
 same-to q e = record { kind = ap (λ r. r .kind) e; label = ap (λ r. r .label) e; name = ap (λ r. r .name) e }
 
 -- what becomes of record i where x is taken out
