@@ -16,7 +16,7 @@ use Rattle.model.specs.Climbing.{ambients}
 use Rattle.model.specs.Finite.{digit}
 use Rattle.model.specs.Laws.Updates.{dissolved-moved, dissolved-self, dissolved-stays, placed-other}
 use Rattle.model.specs.Laws.Bytes.{at-whole, valid-wf}
-use Rattle.model.specs.Laws.Done.{Done, cap-pos, done-other, in-live, open-beside, out-live, outcome-done, partner-pos}
+use Rattle.model.specs.Laws.Done.{Done, cap-pos, done-other, in-live, open-beside, out-live, outcome-done, partner-pos, unmet-number}
 use Rattle.model.specs.Laws.WellFormed.{WellFormed, dissolve-parent-stays, parent-not-self, place-parent-other}
 use Rattle.model.specs.Records.{Capability, at, cap-in, cap-open, cap-out, capability, decode, encode, isAmbient, parentOf, records, update, updateFrom}
 use Rattle.model.specs.Refusals.{andThen, answer, done, pass, refused}
@@ -231,22 +231,6 @@ module _ (s : List ℕ) (c b : ℕ) where
           let q : m ≡ moveBy k c b (parentOf (records s) c) (parentOf (records s) b) = cc in
           (refl, ap encode (ap (λ x. applied x (records s)) q ∙ applied-move (valid-wf s v) k (outcome-done k e)))
 
--- a refusal's number is not 0
-decide-pos : (k : Capability) (x y : Bool) (n : ℕ) → decide k x y ≡ unmet n → n ≢ 0
-unfolding decide
-decide-pos k false y n h e = let u : _≡_ {A = ℕ} 11 0 = cc in omega arith
-decide-pos k true false n h e = let u : _≡_ {A = ℕ} 12 0 = cc in omega arith
-decide-pos k true true n h e = let u : _≡_ {A = ℕ} 0 1 = cc in omega arith
-
-by-pos : (o : Option Capability) (its : List Rec) (c b n : ℕ) → outcomeBy free o its c b ≡ unmet n → n ≢ 0
-unfolding outcomeBy
-by-pos none its c b n h e = let u : _≡_ {A = ℕ} 10 0 = cc in omega arith
-by-pos (some k) its c b n h e = decide-pos k _ _ n h e
-
-pub unmet-pos : (its : List Rec) (c b n : ℕ) → outcome free its c b ≡ unmet n → n ≢ 0
-unfolding outcome
-unmet-pos its c b n h = by-pos _ its c b n h
-
 -- the answer of a step on a valid itinerary
 module _ (s : List ℕ) (c b n : ℕ) (v : validity s ≡ pass) (e : n ≡ answerOf (outcome free (records s) c b)) where
   pub step-done : n ≡ 0 → done (tt {0}) ≡ stepAnswer s c b
@@ -254,7 +238,7 @@ module _ (s : List ℕ) (c b n : ℕ) (v : validity s ≡ pass) (e : n ≡ answe
   step-done z = rw (v, andThen) (go (outcome free (records s) c b) refl e)
     where
       go : (o : Outcome) → outcome free (records s) c b ≡ o → n ≡ answerOf o → done (tt {0}) ≡ answer (metCheck o) (tt {0})
-      go (unmet k) q w = absurd (unmet-pos (records s) c b k q (sym w ∙ z))
+      go (unmet k) q w = absurd (omega (arith, unmet-number free (records s) c b k q .0, w, z))
       go (met k) q w = refl
 
   pub step-refused : n ≢ 0 → refused n 0 ≡ stepAnswer s c b

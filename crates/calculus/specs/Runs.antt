@@ -15,7 +15,7 @@ use Rattle.model.specs.Calls.{runAfter, runAnswer, runAnswers, running}
 use Rattle.model.specs.Finite.{digit}
 use Rattle.model.specs.Laws.Bytes.{at-whole}
 use Rattle.model.specs.Laws.Checks.{need-make}
-use Rattle.model.specs.Laws.Done.{kind-of, list-valid, outcome-done}
+use Rattle.model.specs.Laws.Done.{kind-of, list-valid, outcome-done, unmet-number}
 use Rattle.model.specs.Laws.Finite.{getD-tabulate, length-tabulate}
 use Rattle.model.specs.Laws.Lists.{answers-append, list-append}
 use Rattle.model.specs.Laws.WellFormed.{and-left, and-right}
@@ -28,7 +28,6 @@ use Rattle.model.specs.Validity.{validity}
 use Rattle.model.specs.declared.Counts.{Counts}
 use Rattle.model.specs.declared.Rec.{Rec}
 use Rattle.model.specs.declared.Refusal.{Refusal}
-use Rattle.calculus.specs.Laws.{unmet-pos}
 use Rattle.calculus.specs.Moves.{counted}
 
 -- what scriptRight says
@@ -65,7 +64,7 @@ unfolding doneBy answerOf digit
 done-kind its c b kind = go (outcome free its c b) refl
   where
     go : (o : Outcome) → outcome free its c b ≡ o → doneBy kind o ≡ digit (eqb (answerOf o) 0 && eqb kind (at its c .kind))
-    go (unmet n) e = ap (λ x. digit (x && eqb kind (at its c .kind))) (sym (ne-eqb n 0 (unmet-pos its c b n e)))
+    go (unmet n) e = ap (λ x. digit (x && eqb kind (at its c .kind))) (sym (ne-eqb n 0 (λ z. omega (arith, unmet-number free its c b n e .0, z))))
     go (met k) e = digit-elim (eqb kind (kindOf k)) ∙ ap (λ x. digit (eqb kind x)) (sym (kind-of (at its c .kind) k (outcome-done k e .cap)))
 
 -- one step more at the end

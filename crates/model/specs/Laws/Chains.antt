@@ -2,24 +2,21 @@
 -- leaves the records as they are and answers 10 to 12, so not 0: a list of steps is a chain of as many reductions as answers
 -- are 0, by induction on the list. The other way `reduction-steps` gives a step for the first reduction of a chain, and the
 -- chain's rest starts from the process that this step leaves: by induction on the chain.
-use Prim.Native.Nat.{_+_, _≤_, suc, zero, ℕ}
+use Prim.Native.Nat.{suc, zero, ℕ}
 use lib.ListN.{replicate}
-use mathlib.Core.Bool.{Bool, false, true}
 use mathlib.Core.List.{List, [], _∷_}
-use mathlib.Core.Option.{Option, none, some}
-use mathlib.Core.Path.{_∙_, _≡_, ap, ap₂, refl, subst, sym}
+use mathlib.Core.Path.{_≡_, ap₂, refl}
 use native.Mathlib.Omega.{arith}
 use Rattle.model.specs.Analysis.{Permit, free}
 use Rattle.model.specs.Laws.Bytes.{valid-wf}
-use Rattle.model.specs.Laws.Done.{step-records, step-valid}
+use Rattle.model.specs.Laws.Done.{step-records, step-valid, unmet-number}
 use Rattle.model.specs.Laws.Reductions.{reduction-steps, step-reduces}
 use Rattle.model.specs.Processes.{Chain, Means, Process, Reduces, alike, beside, doneIn, ended, enters, leaves, opens, reduced, within}
-use Rattle.model.specs.Records.{Capability, at, capability, parentOf, records}
+use Rattle.model.specs.Records.{Capability, records}
 use Rattle.model.specs.Refusals.{pass}
 use Rattle.model.specs.Scripts.{Step, afterList, answersOf, outcomes}
-use Rattle.model.specs.Steps.{Outcome, answerOf, decide, effect, fit, met, outcome, outcomeBy, ready, rewritten, step, stepBytes, unmet}
+use Rattle.model.specs.Steps.{Outcome, answerOf, met, outcome, rewritten, stepBytes, unmet}
 use Rattle.model.specs.Validity.{validity}
-use Rattle.model.specs.declared.Rec.{Rec}
 
 -- where all is permitted, the label of the ambient around a reduction plays no part
 pub reduces-anywhere : {w v : ℕ} {P Q : Process} → Reduces free w P Q → Reduces free v P Q
@@ -29,20 +26,6 @@ reduces-anywhere (alike p e q) = alike p (reduces-anywhere e) q
 reduces-anywhere (enters u) = enters u
 reduces-anywhere (leaves u) = leaves u
 reduces-anywhere (opens u) = opens refl
-
--- a step is refused with 10, 11 or 12
-pub unmet-number : (permit : Permit) (its : List Rec) (c b n : ℕ) → outcome permit its c b ≡ unmet n → (10 ≤ n) × (n ≤ 12)
-unfolding outcome outcomeBy decide
-unmet-number permit its c b n = go (capability (at its c .kind))
-  where
-    by : (k : Capability) (r f : Bool) → decide k r f ≡ unmet n → (10 ≤ n) × (n ≤ 12)
-    by k false f e = let u : _≡_ {A = ℕ} 11 n = cc in (omega arith, omega arith)
-    by k true false e = let u : _≡_ {A = ℕ} 12 n = cc in (omega arith, omega arith)
-    by k true true e = let u : _≡_ {A = ℕ} 0 1 = cc in absurd (omega arith)
-
-    go : (o : Option Capability) → outcomeBy permit o its c b ≡ unmet n → (10 ≤ n) × (n ≤ 12)
-    go none e = let u : _≡_ {A = ℕ} 10 n = cc in (omega arith, omega arith)
-    go (some k) e = by k (ready k its (parentOf its c)) (fit permit k its c b) e
 
 -- a process at the end of a chain that starts at P, one reduction for each answer that is 0, and it is the itinerary's
 pub record Chained (permit : Permit) (P : Process) (answers s : List ℕ) : Type 0 where

@@ -66,6 +66,25 @@ outcome-done {permit} {its} {c} {b} k = go (capability (at its c .kind)) refl
     go none e w = let u : _≡_ {A = ℕ} 0 1 = cc in absurd (omega arith)
     go (some j) e w = tests j e (ready j its (parentOf its c)) (fit permit j its c b) refl refl w
 
+-- a step is refused with 10, 11 or 12
+abbrev Refusing : ℕ → Type 0
+Refusing n = (10 ≤ n) × (n ≤ 12)
+
+decide-unmet : (k : Capability) (r f : Bool) (n : ℕ) → decide k r f ≡ unmet n → Refusing n
+unfolding decide
+decide-unmet k false f n e = let u : _≡_ {A = ℕ} 11 n = cc in (omega arith, omega arith)
+decide-unmet k true false n e = let u : _≡_ {A = ℕ} 12 n = cc in (omega arith, omega arith)
+decide-unmet k true true n e = let u : _≡_ {A = ℕ} 0 1 = cc in absurd (omega arith)
+
+by-unmet : (permit : Permit) (o : Option Capability) (its : List Rec) (c b n : ℕ) → outcomeBy permit o its c b ≡ unmet n → Refusing n
+unfolding outcomeBy
+by-unmet permit none its c b n e = let u : _≡_ {A = ℕ} 10 n = cc in (omega arith, omega arith)
+by-unmet permit (some k) its c b n e = decide-unmet k _ _ n e
+
+pub unmet-number : (permit : Permit) (its : List Rec) (c b n : ℕ) → outcome permit its c b ≡ unmet n → (10 ≤ n) × (n ≤ 12)
+unfolding outcome
+unmet-number permit its c b n e = by-unmet permit _ its c b n e
+
 pub cap-alive : (its : List Rec) (c : ℕ) (k : Capability) → capability (at its c .kind) ≡ some k → Alive its c
 unfolding capability
 cap-alive its c k e h = let w : _≡_ {A = Option Capability} none (some k) = rw h at e in let u : _≡_ {A = ℕ} 0 1 = cc in omega arith

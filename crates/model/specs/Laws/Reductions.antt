@@ -224,7 +224,7 @@ done-outcome : {permit : Permit} {its : List Rec} {k : Capability} {c b : ℕ} �
 unfolding outcome outcomeBy decide fit
 done-outcome {permit} {its} {k} {c} {b} d =
     let f : fit permit k its c b ≡ true = rw (d .amb, eq-eqb _ _ (d .name), d .stand, d .right) in
-    rw (d .cap, outcomeBy) (rw (d .isReady, f))
+    rw (d .cap, outcomeBy) (rw (f, d .isReady))
 
 module _ {its : List Rec} {P : Process} (m : Means its P) where
   pub means-whole : Whole its 0 (times (m .reading))
