@@ -1,19 +1,18 @@
 -- Document 01, "Lettered examples": A to H, as one list of claims about the calls.
 use Prim.Native.Nat.{_<_, ℕ}
-use lib.Count.{ones}
 use lib.Dec.{eqb}
 use lib.ListN.{replicate}
-use mathlib.Core.Bool.{Bool, false, true}
+use mathlib.Core.Bool.{Bool, _&&_, false, true}
 use mathlib.Core.List.{List, [], _∷_}
 use mathlib.Core.Option.{some}
 use mathlib.Core.Path.{_≡_}
 use Rattle.model.specs.Calls.{makeAfter, makeAnswer, stepAfter, stepAnswer, validateAnswer, verdictAnswer}
-use Rattle.model.specs.Laws.WellFormed.{labels}
 use Rattle.model.specs.Listing.{hubscreen}
-use Rattle.model.specs.Noninterference.{script}
+use Rattle.model.specs.Records.{nested}
 use Rattle.model.specs.Refusals.{done, number, refused}
-use Rattle.model.specs.Steps.{place}
 use Rattle.model.specs.Tables.{suspects}
+use Rattle.model.specs.Validity.{labelRight, nameRight}
+use Rattle.model.specs.declared.Rec.{Rec}
 use Rattle.model.specs.declared.Verdict.{Verdict}
 use Rattle.model.specs.declared.Verdict.the-variants.{Exposed, Hinted, Sealed}
 
@@ -62,9 +61,13 @@ itineraryE = rec 1 1 0 0 (rec 2 64 0 1 [])
 unfoldable pub itineraryF : List ℕ
 itineraryF = []
 
--- "one record with parent 1": an ambient; any other kind with a fitting label is refused alike
-unfoldable pub itineraryG : ℕ → List ℕ
-itineraryG parent = rec 1 1 0 parent []
+-- "one record with parent 1"
+unfoldable pub itineraryG : ℕ → ℕ → ℕ → ℕ → List ℕ
+itineraryG kind label name parent = rec kind label name parent []
+
+-- an ambient or a capability whose label and name are right: what refusals 2 to 4 leave of G's one record
+unfoldable pub rightG : ℕ → ℕ → ℕ → Bool
+rightG kind label name = let r : Rec = record { kind = kind; label = label; name = name; parent = 0 } in nested r && (labelRight r && nameRight r)
 
 -- "(1,1,0,parent 0), (3,64,0,parent 0)"
 unfoldable pub itineraryH : ℕ → List ℕ
@@ -84,8 +87,8 @@ pub data Claim : Type 0 where
   steps : (itinerary : List ℕ) (actor partner number : ℕ) (later : List ℕ) → Claim
   -- hubscreen writes these bytes
   writes : (itinerary policy script : List ℕ) (text : List ℕ) → Claim
-  -- validation refuses, with number and record
-  refuses : (itinerary : List ℕ) (number place : ℕ) → Claim
+  -- validation refuses every such record with this parent, with number and record
+  refuses : (parent number place : ℕ) → Claim
 
 -- what the claim says of the calls
 unfoldable pub Meets : Claim → Type 0
@@ -94,7 +97,7 @@ Meets (makes s policy ones verdict) =
 Meets (suspecting s policy labels) = (k : ℕ) → k < 64 → suspects (makeAfter s policy blankTable) k ≡ isIn labels k
 Meets (steps s actor partner n later) = (number (stepAnswer s actor partner) ≡ n) × (stepAfter s actor partner ≡ later)
 Meets (writes s policy z text) = hubscreen (some s) (some policy) (some z) ≡ text
-Meets (refuses s n r) = validateAnswer s ≡ refused n r
+Meets (refuses parent n r) = (kind label name : ℕ) → rightG kind label name ≡ true → validateAnswer (itineraryG kind label name parent) ≡ refused n r
 
 -- "For case B and the script (3,1), (3,1) it writes exactly"
 unfoldable pub scriptB : List ℕ
@@ -105,11 +108,6 @@ unfoldable pub textB : List ℕ
 textB =
     101 ∷ 120 ∷ 112 ∷ 111 ∷ 115 ∷ 101 ∷ 100 ∷ 32 ∷ 50 ∷ 32 ∷ 55 ∷ 10 ∷ 51 ∷ 32 ∷ 49 ∷ 32 ∷ 48 ∷ 10 ∷ 51 ∷ 32 ∷ 49 ∷ 32 ∷ 49 ∷ 48 ∷ 10
     ∷ 101 ∷ 110 ∷ 100 ∷ 32 ∷ 48 ∷ 32 ∷ 49 ∷ 32 ∷ 48 ∷ 32 ∷ 50 ∷ 10 ∷ []
-
--- each claim of a list has the property
-unfoldable pub All : (Claim → Type 0) → List Claim → Type 0
-All P [] = Unit {0}
-All P (c ∷ cs) = P c × All P cs
 
 -- the lettered examples, one list
 unfoldable pub examples : List Claim
@@ -133,8 +131,8 @@ examples =
     ∷ makes itineraryF classes 1 Sealed
     ∷ suspecting itineraryF classes (2 ∷ [])
     -- "G: one record with parent 1: refusal 6, record 1. With parent 2: refusal 5."
-    ∷ refuses (itineraryG 1) 6 1
-    ∷ refuses (itineraryG 2) 5 1
+    ∷ refuses 1 6 1
+    ∷ refuses 2 5 1
     -- "H: .. step (2,1) answers 11. With kind 4 both go."
     ∷ steps (itineraryH 3) 2 1 11 (itineraryH 3)
     ∷ steps (itineraryH 4) 2 1 0 (rec 0 0 0 0 (rec 0 0 0 0 []))

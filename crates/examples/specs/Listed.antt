@@ -13,7 +13,7 @@ use Rattle.examples.specs.Claims.{Meets, allLow, blankTable, classes, is
 use Rattle.model.specs.Analysis.{free, holds, onlyIf, recordHolds, ruleHolds, rulesHold}
 use Rattle.model.specs.Calls.{checkAnswer, checking, makeAfter, makeAnswer, making, metCheck, runAfter, runAnswers, running, screenAnswer, screenAnswers, screening, stepAfter, stepAnswer, stepping, validateAnswer, verdictAnswer}
 use Rattle.model.specs.Climbing.{ambientAnd, hides, isSuspect, labelled, reaches, view, viewFrom}
-use Rattle.model.specs.Finite.{digit, every, lowest, someOf, tabulate, tally}
+use Rattle.model.specs.Finite.{Each, digit, every, lowest, someOf, tabulate, tally}
 use Rattle.model.specs.Laws.Bit.{zero-bit}
 use Rattle.model.specs.Laws.Bytes.{valid-wf}
 use Rattle.model.specs.Laws.Checks.{answer-done, beq-eq, need-make, then-make}
@@ -22,7 +22,7 @@ use Rattle.model.specs.Laws.Holding.{Holds, holds-sound}
 use Rattle.model.specs.Laws.Least.{least-table-is}
 use Rattle.model.specs.Laws.Made.{made-accepted}
 use Rattle.model.specs.Laws.Sets.{bits-bytes, bytes-narrow, length-bytes}
-use Rattle.model.specs.Laws.WellFormed.{and-left, and-right, labels}
+use Rattle.model.specs.Laws.WellFormed.{and-left, and-right}
 use Rattle.model.specs.Least.{bytes, leastTable, numeral}
 use Rattle.model.specs.Listing.{contentOf, digitsIn, endLine, endWord, field, lastField, listing, refusedWord, stepLines, verdictWord}
 use Rattle.model.specs.Noninterference.{after, afterEvent, allSteps, given, givenBy, kept, stepsOf}
@@ -40,11 +40,6 @@ use Rattle.model.specs.declared.Verdict.{Verdict}
 unfoldable pub computing : ℕ
 unfolding sizeRight kindRight spareRight blank goneRight labelIn labelBy labelRight nameBy nameRight parentRight recordCheck climbCheck validity count byteOf decode records tabulate at isAmbient nested viewFrom reaches need andThen eachOf view labelled capability every onlyIf ruleHolds rulesHold recordHolds holds isHigh placeI placeH placeS isIn someOf lowest marked alike joins grown growing reached opening inR isBoundary verdictBy verdictOf encode updateFrom ambientAnd placed place dissolved dissolve ready stands fit move decide outcomeBy outcome answerOf rewritten stepBytes metCheck stepping stepAnswer stepAfter answer content stepIn stepsIn scriptRight afterList outcomes answersOf running runAfter runAnswers afterEvent after kept stepsOf allSteps givenBy given hides isSuspect sheet onSheet policyRight total bytes numeral digit ones onesIn validateAnswer screening tally notGone countsOf howMany doneBy kindOf screenAnswers contentOf digitsIn field lastField verdictWord endWord refusedWord stepLines endLine listing labelOf rec classes allLow recordsA itineraryA itineraryB itineraryC itineraryD itineraryE itineraryF itineraryG itineraryH
 computing = 0
-
--- every number of a list has the property
-abbrev pub Each : (ℕ → Type 0) → List ℕ → Type 0
-Each P [] = Unit {0}
-Each P (x ∷ xs) = P x × Each P xs
 
 unfoldable pub allBelow : ℕ → List ℕ → Bool
 allBelow n [] = true

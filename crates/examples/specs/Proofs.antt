@@ -1,20 +1,24 @@
 -- The lettered examples A to H, proved about the definitions that the contracts cite: for each the bits of its least
 -- table, each of which a record or a rule forces.
 use Prim.Native.Nat.{_/_, ℕ}
+use borrow.Author.Tests.{leb-true, ne-eqb}
+use lib.Dec.{eqb, leb}
 use lib.ListN.{length, replicate}
-use mathlib.Core.Bool.{Bool·beq, true}
+use mathlib.Core.Bool.{Bool·beq, _&&_, false, true}
 use mathlib.Core.List.{List, [], _∷_}
 use mathlib.Core.Path.{_≡_, ap, refl}
 use native.Mathlib.Omega.{arith}
-use Rattle.examples.specs.Claims.{All, Meets, allLow, classes, examples, isIn, itineraryA, itineraryB, itineraryC, itineraryD, itineraryE, itineraryF, scriptB, textB, writes}
+use Rattle.examples.specs.Claims.{Meets, allLow, classes, examples, isIn, itineraryA, itineraryB, itineraryC, itineraryD, itineraryE, itineraryF, itineraryG, rightG, scriptB, textB, writes}
 use Rattle.examples.specs.Listed.{Listed, allBelow, computing, listed-makes, listed-screen, listed-suspects}
-use Rattle.model.specs.Calls.{screenAnswers}
-use Rattle.model.specs.Finite.{every}
-use Rattle.model.specs.Laws.WellFormed.{small}
+use Rattle.model.specs.Calls.{screenAnswers, validateAnswer}
+use Rattle.model.specs.Finite.{Each, every}
+use Rattle.model.specs.Laws.WellFormed.{and-left, and-right}
 use Rattle.model.specs.Listing.{hubscreen, listing, written}
-use Rattle.model.specs.Records.{cap-in, cap-open, cap-out}
+use Rattle.model.specs.Records.{cap-in, cap-open, cap-out, isAmbient, nested}
+use Rattle.model.specs.Refusals.{refused}
 use Rattle.model.specs.Scripts.{stepsIn}
 use Rattle.model.specs.Tables.{placeH, placeI, placeS}
+use Rattle.model.specs.Validity.{labelBy, labelRight, nameBy, nameRight}
 use Rattle.model.specs.declared.Verdict.the-variants.{Exposed, Hinted, Sealed}
 
 unfoldable pub bitsA : List ℕ
@@ -136,14 +140,40 @@ writes-B =
     ap (λ a. listing a (stepsIn scriptB) (screenAnswers itineraryB classes scriptB (replicate (length scriptB / 4) 0)))
     (listed-screen listedB scriptB (replicate (length scriptB / 4) 0) refl)
 
+-- G's one record: its kind, label and name pass, and its parent decides
+module _ (kind label name : ℕ) (h : rightG kind label name ≡ true) where
+  kind-some : eqb kind 0 ≡ false
+  unfolding rightG nested
+  kind-some = ne-eqb kind 0 (λ e. omega (arith, leb-true 1 kind (and-left _ _ (and-left _ _ h)), e))
+
+  kind-most : leb kind 4 ≡ true
+  unfolding rightG nested
+  kind-most = and-right (leb 1 kind) _ (and-left _ _ h)
+
+  label-right : labelBy (leb 1 kind && leb kind 4) (eqb kind 1) label ≡ true
+  unfolding rightG nested labelRight isAmbient
+  label-right = and-left _ _ (and-right (leb 1 kind && leb kind 4) _ h)
+
+  name-right : nameBy (leb 1 kind && leb kind 4) name ≡ true
+  unfolding rightG nested nameRight labelRight isAmbient
+  name-right = and-right (labelBy (leb 1 kind && leb kind 4) (eqb kind 1) label) _ (and-right (leb 1 kind && leb kind 4) _ h)
+
+  refuses-six : validateAnswer (itineraryG kind label name 1) ≡ refused 6 1
+  unfolding computing
+  refuses-six = rw (label-right, name-right, kind-most, kind-some)
+
+  refuses-five : validateAnswer (itineraryG kind label name 2) ≡ refused 5 1
+  unfolding computing
+  refuses-five = rw (label-right, name-right, kind-most, kind-some)
+
 -- a proof and the rest
 infixr 4 _also_
 _also_ : {A B : Type 0} → A → B → A × B
 a also b = (a, b)
 
 -- A to H
-pub all-examples : All Meets examples
-unfolding computing All Meets examples
+pub all-examples : Each Meets examples
+unfolding computing Meets examples
 all-examples =
     listed-makes listedA
     also listed-makes listedB
@@ -157,8 +187,8 @@ all-examples =
     also (refl, refl)
     also listed-makes listedF
     also listed-suspects listedF (2 ∷ []) suspects-F
-    also refl
-    also refl
+    also refuses-six
+    also refuses-five
     also (refl, refl)
     also (refl, refl)
     also tt

@@ -38,3 +38,8 @@ tally t (suc n) = digit (t (suc n)) + tally t n
 -- two numbers differ
 abbrev pub unequal : ℕ → ℕ → Bool
 unequal x y = not (eqb x y)
+
+-- each of a list has the property
+abbrev pub Each : {A : Type 0} → (A → Type 0) → List A → Type 0
+Each P [] = Unit {0}
+Each P (x ∷ xs) = P x × Each P xs

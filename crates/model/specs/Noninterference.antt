@@ -1,7 +1,9 @@
--- Demand 3 of the product's statement: "two itineraries of equal length with one table accepted for both under one
--- policy, sealed, and equal sheets, given the same list of steps of any length, refused ones included, singly or in
--- scripts, keep every suspect ambient under a boundary, keep equal sheets byte for byte, and give equal answers to each
--- step whose actor stood on the sheet."
+-- Demand 3, in the customer's words: "Suppose two itineraries have equally many records, one table is accepted for both
+-- under one policy, its verdict is sealed, and their observer's sheets by that table are equal. Give both the same list of
+-- steps, any list of any length, refused steps included, singly or in scripts. Each step gets the itinerary that the step
+-- before it left, and nobody else writes it meanwhile. Then, after the list, every suspect ambient in either itinerary, and
+-- so every high one, has a boundary ambient above it. The two sheets by that same table are equal again, byte for byte. And
+-- each step of the list whose actor stood on the sheet just before that step got the same answer in both."
 -- Its proof is in Laws/Secrecy.
 use Prim.Native.Nat.{_<_, suc, ℕ}
 use lib.ListN.{getD, length, replicate, take}
@@ -11,12 +13,12 @@ use mathlib.Core.Logic.{_≢_}
 use mathlib.Core.Path.{_≡_}
 use Rattle.model.specs.Calls.{checkAnswer, runAfter, runAnswers, stepAfter, stepAnswer, verdictAnswer}
 use Rattle.model.specs.Climbing.{climb}
-use Rattle.model.specs.Least.{bytes}
+use Rattle.model.specs.Finite.{Each}
 use Rattle.model.specs.Observer.{sheetOf}
 use Rattle.model.specs.Records.{at, isAmbient, parentOf, records}
 use Rattle.model.specs.Refusals.{done, number}
 use Rattle.model.specs.Scripts.{Step, stepsIn, scriptRight}
-use Rattle.model.specs.Tables.{isBoundary, suspects}
+use Rattle.model.specs.Tables.{isBoundary, isHigh, suspects}
 use Rattle.model.specs.declared.Verdict.the-variants.{Sealed}
 
 -- "singly or in scripts": a single step, or a script run with its script and the length of its answers
@@ -29,7 +31,7 @@ unfoldable pub afterEvent : List ℕ → Event → List ℕ
 afterEvent s (single actor partner) = stepAfter s actor partner
 afterEvent s (script z room) = runAfter s z (replicate room 0)
 
--- the itinerary after a list of events
+-- "Each step gets the itinerary that the step before it left": the itinerary after a list of events
 unfoldable pub after : List ℕ → List Event → List ℕ
 after s [] = s
 after s (e ∷ es) = after (afterEvent s e) es
@@ -68,7 +70,7 @@ afterSteps s (m ∷ ms) = afterSteps (stepAfter s (m .actor) (m .partner)) ms
 unfoldable pub stepAt : List Event → ℕ → Step
 stepAt es n = getD (allSteps es) n (record { actor = 0; partner = 0 })
 
--- the itinerary just before the n-th step
+-- "just before that step": the itinerary just before the n-th
 unfoldable pub before : List ℕ → List Event → ℕ → List ℕ
 before s es n = afterSteps s (take n (allSteps es))
 
@@ -80,35 +82,63 @@ BoundaryAt policy s j = (isAmbient (at (records s) j) ≡ true) × (isBoundary p
 abbrev pub UnderBoundary : List ℕ → List ℕ → ℕ → Type 0
 UnderBoundary policy s i = (k : ℕ) × BoundaryAt policy s (climb (parentOf (records s)) (suc k) i)
 
--- "keep every suspect ambient under a boundary"
+-- "every suspect ambient .. has a boundary ambient above it"
 abbrev pub SuspectsGuarded : List ℕ → List ℕ → List ℕ → Type 0
 SuspectsGuarded policy table s =
     (i : ℕ) → isAmbient (at (records s) i) ≡ true → suspects table (at (records s) i .label) ≡ true → UnderBoundary policy s i
+
+-- "and so every high one"
+abbrev pub HighGuarded : List ℕ → List ℕ → Type 0
+HighGuarded policy s = (i : ℕ) → isAmbient (at (records s) i) ≡ true → isHigh policy (at (records s) i .label) ≡ true → UnderBoundary policy s i
 
 -- record i stands on the sheet: it is "neither hidden nor gone"
 abbrev pub OnSheet : List ℕ → List ℕ → ℕ → Type 0
 OnSheet table s i = at (records (sheetOf s table)) i .kind ≢ 0
 
--- what a list of events keeps of two itineraries x and y
+-- "after the list": what a list of events keeps of two itineraries x and y
 pub record Noninterference (policy table x y : List ℕ) (es : List Event) : Type 0 where
-  -- "keep every suspect ambient under a boundary"
+  -- "every suspect ambient in either itinerary", x and y
   pub guarded : SuspectsGuarded policy table (after x es)
   pub guarded′ : SuspectsGuarded policy table (after y es)
-  -- "keep equal sheets byte for byte"
+  -- "and so every high one"
+  pub high : HighGuarded policy (after x es)
+  pub high′ : HighGuarded policy (after y es)
+  -- "The two sheets by that same table are equal again, byte for byte."
   pub sheets : sheetOf (after x es) table ≡ sheetOf (after y es) table
-  -- "give equal answers to each step whose actor stood on the sheet"
+  -- "each step of the list whose actor stood on the sheet just before that step got the same answer in both"
   pub answers : (n : ℕ) → n < length (allSteps es) → OnSheet table (before x es n) (stepAt es n .actor) →
       getD (given x es) n 0 ≡ getD (given y es) n 0
 
 -- the whole of demand 3
 abbrev pub Demand3 : Type 0
 Demand3 = (policy table x y : List ℕ) →
-    -- "of equal length"
+    -- "two itineraries have equally many records"
     length x ≡ length y →
-    -- "one table accepted for both under one policy"
+    -- "one table is accepted for both under one policy"
     checkAnswer x policy table ≡ done tt → checkAnswer y policy table ≡ done tt →
-    -- "sealed"
+    -- "its verdict is sealed"
     verdictAnswer x policy table ≡ done Sealed →
-    -- "and equal sheets"
+    -- "their observer's sheets by that table are equal"
     sheetOf x table ≡ sheetOf y table →
+    -- "the same list of steps, any list of any length, refused steps included, singly or in scripts"
     (es : List Event) → Noninterference policy table x y es
+
+-- "Four clients may share one bench": a client's policy, in which the others' recipes are high and its own is low, and the
+-- table that the bench is screened by for this client
+pub record Client : Type 0 where
+  pub policy : List ℕ
+  pub table : List ℕ
+
+-- the bench is screened for a client: its table is accepted, and the verdict is sealed
+pub record ScreenedFor (x : List ℕ) (c : Client) : Type 0 where
+  pub accepted : checkAnswer x (c .policy) (c .table) ≡ done tt
+  pub sealed : verdictAnswer x (c .policy) (c .table) ≡ done Sealed
+
+-- a client sees the sheet by its table: whatever else the bench could be that looks the same to it stays looking the same
+abbrev pub KeptFrom : List ℕ → Client → Type 0
+KeptFrom x c = (y : List ℕ) → length x ≡ length y → checkAnswer y (c .policy) (c .table) ≡ done tt →
+    sheetOf x (c .table) ≡ sheetOf y (c .table) → (es : List Event) → Noninterference (c .policy) (c .table) x y es
+
+-- a bench that is screened once for each of its clients keeps what it must from each of them
+abbrev pub EveryClient : Type 0
+EveryClient = (x : List ℕ) (clients : List Client) → Each (ScreenedFor x) clients → Each (KeptFrom x) clients

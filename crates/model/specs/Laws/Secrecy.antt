@@ -21,7 +21,7 @@ use Rattle.model.specs.Laws.Sheet.{by-hidden, sheet-hidden}
 use Rattle.model.specs.Laws.Simulation.{same-outcome, sheet-step}
 use Rattle.model.specs.Laws.SubjectReduction.{step-holds}
 use Rattle.model.specs.Laws.WellFormed.{and-right, small}
-use Rattle.model.specs.Noninterference.{Demand3, Event, OnSheet, SuspectsGuarded, UnderBoundary, after, allSteps, before, given, stepAt}
+use Rattle.model.specs.Noninterference.{Demand3, Event, EveryClient, HighGuarded, OnSheet, SuspectsGuarded, after, allSteps, before, given, stepAt}
 use Rattle.model.specs.Observer.{sheet, sheetOf}
 use Rattle.model.specs.Records.{at, byte, encode, isAmbient, records}
 use Rattle.model.specs.Refusals.{answer, content, done, pass}
@@ -125,12 +125,20 @@ accepted-after es s policy table h =
     let k = guarding-list (allSteps es) s (record { valid = w .valid; holding = w .holding }) in
     rw (after-steps es s (w .valid)) (accept _ policy table (record { valid = k .valid; policy-right = w .policy-right; table-right = w .table-right; holding = k .holding }))
 
+-- "and so every high one": under an accepted table a high label is suspect
+pub high-guarded : (policy table s : List ℕ) → checkAnswer s policy table ≡ done tt → SuspectsGuarded policy table s → HighGuarded policy s
+high-guarded policy table s h w i e q =
+    let a = accepted s policy table h in
+    w i e (a .holding .high _ (small (valid-wf s (a .valid)) i e) q)
+
 -- demand 3
 pub noninterference : Demand3
 unfolding sheetOf before stepAt verdictAnswer
 noninterference policy table x y size hx hy v same es = record {
   guarded = guard x ax;
   guarded′ = guard y ay;
+  high = high-guarded policy table (after x es) (accepted-after es x policy table hx) (guard x ax);
+  high′ = high-guarded policy table (after y es) (accepted-after es y policy table hy) (guard y ay);
   sheets = sheets-after es;
   answers = λ n l on. answers-after n l on;
 }
@@ -181,12 +189,10 @@ noninterference policy table x y size hx hy v same es = record {
         shown : at (sheet (records (afterList free x (take n (allSteps es)))) (T .S)) (stepAt es n .actor) .kind ≡ 0 → at (records (sheetOf (before x es n) table)) (stepAt es n .actor) .kind ≡ 0
         shown k = ap (λ s. at (records (sheetOf s table)) (stepAt es n .actor) .kind) (single-steps (take n (allSteps es)) x (ax .valid)) ∙ ap (λ l. at l (stepAt es n .actor) .kind) (sheet-records _ table) ∙ k
 
--- and so every high ambient: under an accepted table a high label is suspect
-pub high-guarded : (policy table s : List ℕ) → checkAnswer s policy table ≡ done tt → SuspectsGuarded policy table s →
-    (i : ℕ) → isAmbient (at (records s) i) ≡ true → isHigh policy (at (records s) i .label) ≡ true → UnderBoundary policy s i
-high-guarded policy table s h w i e q =
-    let a = accepted s policy table h in
-    w i e (a .holding .high _ (small (valid-wf s (a .valid)) i e) q)
+-- demand 3 is for every policy, so for that of each client
+pub every-client : EveryClient
+every-client x [] w = tt
+every-client x (c ∷ cs) w = (λ y l a. noninterference (c .policy) (c .table) x y l (w .0 .accepted) a (w .0 .sealed), every-client x cs (w .1))
 
 -- the sheet call writes the sheet that demand 3 speaks of
 pub sheet-written : (s policy table buffer : List ℕ) → checkAnswer s policy table ≡ done tt → length buffer ≡ length s → sheetAfter s table buffer ≡ sheetOf s table
