@@ -3,4 +3,6 @@ pub mod Claims
 pub mod Listed
 pub mod Proofs
 pub mod Published
+pub mod Tabled
 pub mod Witness
+pub mod Clients

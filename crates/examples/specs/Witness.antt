@@ -1,27 +1,22 @@
 -- The hypotheses of noninterference can be met: two different benches, a table, and a list of events with a shown step
 -- done, a hidden step done, a refused step, a script, and a run refused with 13.
 use Prim.Native.Nat.{ℕ}
-use borrow.Author.Tests.{eq-eqb}
 use lib.ListN.{getD, length}
-use mathlib.Core.Bool.{_&&_, not, true}
+use mathlib.Core.Bool.{true}
 use mathlib.Core.List.{List, [], _∷_}
-use mathlib.Core.Path.{_∙_, _≡_, ap, ap₂, refl, subst, sym}
+use mathlib.Core.Path.{_≡_, ap, refl}
 use native.Mathlib.Omega.{arith}
 use Rattle.examples.specs.Claims.{classes, isIn, rec}
-use Rattle.examples.specs.Listed.{allBelow, bits-listed, computing}
+use Rattle.examples.specs.Listed.{allBelow, computing}
+use Rattle.examples.specs.Tabled.{accepting, formed, judging, showing-alike, tableOf}
 use Rattle.model.specs.Analysis.{free, holds}
-use Rattle.model.specs.Calls.{checkAnswer, checking, verdictAnswer}
-use Rattle.model.specs.Finite.{every}
-use Rattle.model.specs.Laws.Checks.{and-make, answer-done}
-use Rattle.model.specs.Laws.Holding.{holds-sound}
-use Rattle.model.specs.Laws.Secrecy.{accept, noninterference}
-use Rattle.model.specs.Laws.Sets.{length-bytes}
-use Rattle.model.specs.Least.{bytes}
+use Rattle.model.specs.Calls.{checkAnswer}
+use Rattle.model.specs.Laws.Secrecy.{noninterference}
 use Rattle.model.specs.Noninterference.{Event, Noninterference, allSteps, given, script, single}
-use Rattle.model.specs.Observer.{sheet, sheetOf}
-use Rattle.model.specs.Records.{encode, records}
-use Rattle.model.specs.Refusals.{answer, done, pass}
-use Rattle.model.specs.Tables.{bits, parts, placeH, placeI, placeS, policyRight, tableRight, tableSized}
+use Rattle.model.specs.Observer.{sheet}
+use Rattle.model.specs.Records.{records}
+use Rattle.model.specs.Refusals.{done, pass}
+use Rattle.model.specs.Tables.{parts, placeH, placeI, placeS}
 use Rattle.model.specs.Validity.{validity}
 use Rattle.model.specs.Verdicts.{verdictOf}
 use Rattle.model.specs.declared.Verdict.the-variants.{Sealed}
@@ -43,8 +38,8 @@ bitsW =
     placeI 0 1 ∷ placeI 1 2 ∷ placeI 2 5 ∷ placeI 2 64 ∷ placeI 0 3 ∷ placeI 0 4 ∷ placeI 4 65 ∷ placeI 3 4
     ∷ placeH 1 0 ∷ placeH 2 1 ∷ placeH 5 5 ∷ placeH 3 2 ∷ placeH 4 3 ∷ placeS 2 ∷ []
 
-unfoldable pub tableW : List ℕ
-tableW = bytes 1544 (isIn bitsW)
+abbrev pub tableW : List ℕ
+tableW = tableOf bitsW
 
 -- the shown step (7,5), the hidden step (4,3), a refused step, the script (7,5), and a script with no room for its answer
 unfoldable pub eventsW : List Event
@@ -54,71 +49,30 @@ small-W : allBelow 12352 bitsW ≡ true
 unfolding computing allBelow bitsW
 small-W = refl
 
-bits-W : bits tableW ≡ isIn bitsW
-unfolding tableW
-bits-W = bits-listed bitsW small-W
+accepted-W : (s : List ℕ) → validity s ≡ pass → holds free classes (records s) (parts (isIn bitsW)) ≡ true → checkAnswer s classes tableW ≡ done tt
+unfolding computing bitsW formed
+accepted-W = accepting bitsW small-W classes refl refl
 
-length-W : length tableW ≡ 1544
-unfolding tableW
-length-W = length-bytes (isIn bitsW) 1544
+accepted-X : checkAnswer benchX classes tableW ≡ done tt
+unfolding computing shown-rest benchX bitsW
+accepted-X = accepted-W benchX refl refl
 
-form-W : (every 64 (λ a. true) (λ a. not (isIn bitsW (placeI a 0))) && every 64 (λ n. true) (λ n. not (isIn bitsW (placeH 0 n)))) ≡ true
-unfolding computing bitsW
-form-W = refl
-
-right-W : tableRight tableW ≡ true
-unfolding tableRight tableSized
-right-W = and-make (eq-eqb _ _ length-W) (rw bits-W form-W)
-
-policy-W : policyRight classes ≡ true
-unfolding computing
-policy-W = refl
-
-valid-X : validity benchX ≡ pass
-unfolding computing shown-rest benchX benchY
-valid-X = refl
-
-valid-Y : validity benchY ≡ pass
-unfolding computing shown-rest benchX benchY
-valid-Y = refl
-
-holding-X : holds free classes (records benchX) (parts (isIn bitsW)) ≡ true
-unfolding computing shown-rest benchX benchY bitsW
-holding-X = refl
-
-holding-Y : holds free classes (records benchY) (parts (isIn bitsW)) ≡ true
-unfolding computing shown-rest benchX benchY bitsW
-holding-Y = refl
-
-accepting : (s : List ℕ) → validity s ≡ pass → holds free classes (records s) (parts (isIn bitsW)) ≡ true → checkAnswer s classes tableW ≡ done tt
-accepting s v h = accept s classes tableW (record {
-  valid = v;
-  policy-right = policy-W;
-  table-right = right-W;
-  holding = holds-sound free classes (records s) (parts (bits tableW)) (rw bits-W h);
-})
+accepted-Y : checkAnswer benchY classes tableW ≡ done tt
+unfolding computing shown-rest benchY bitsW
+accepted-Y = accepted-W benchY refl refl
 
 sealed-W : verdictOf (parts (isIn bitsW)) classes ≡ Sealed
 unfolding computing bitsW
 sealed-W = refl
 
-verdict-W : verdictAnswer benchX classes tableW ≡ done Sealed
-unfolding verdictAnswer checkAnswer answer
-verdict-W = ap₂ answer (answer-done (checking benchX classes tableW) _ _ (accepting benchX valid-X holding-X)) (ap (λ u. verdictOf (parts u) classes) bits-W ∙ sealed-W)
-
-sheets-listed : sheet (records benchX) (λ k. isIn bitsW (placeS k)) ≡ sheet (records benchY) (λ k. isIn bitsW (placeS k))
+sheets-W : sheet (records benchX) (λ k. isIn bitsW (placeS k)) ≡ sheet (records benchY) (λ k. isIn bitsW (placeS k))
 unfolding computing bitsW shown-rest benchX benchY
-sheets-listed = refl
-
-sheets-W : sheetOf benchX tableW ≡ sheetOf benchY tableW
-unfolding sheetOf
-sheets-W =
-    ap encode (subst (λ u. sheet (records benchX) (λ k. u (placeS k)) ≡ sheet (records benchY) (λ k. u (placeS k))) (sym bits-W) sheets-listed)
+sheets-W = refl
 
 -- the theorem at this pair
 pub witness : Noninterference classes tableW benchX benchY eventsW
 unfolding rec benchX benchY shown-rest
-witness = noninterference classes tableW benchX benchY refl (accepting benchX valid-X holding-X) (accepting benchY valid-Y holding-Y) verdict-W sheets-W eventsW
+witness = noninterference classes tableW benchX benchY refl accepted-X accepted-Y (judging bitsW small-W classes benchX Sealed accepted-X sealed-W) (showing-alike bitsW small-W benchX benchY sheets-W) eventsW
 
 -- the benches differ, and so do the answers to the hidden step alone
 pub different : benchX ≡ benchY → ⊥
