@@ -1,6 +1,6 @@
 -- Published reductions as itineraries: example B's step, and source document 003's Example 1,
 -- A[p[out A.in B]] | B[open p], in three steps to A[] | B[]. That a reading has each record exactly once is computed.
-use Prim.Native.Nat.{suc, zero, ℕ}
+use Prim.Native.Nat.{suc, ℕ}
 use borrow.Author.Tests.{eqb-true, ne-eqb}
 use lib.Dec.{eqb}
 use lib.ListN.{length}

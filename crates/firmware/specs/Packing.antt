@@ -5,8 +5,7 @@ use Prim.Native.Nat.{_*_, ℕ}
 use lib.Dec.{leb}
 use mathlib.Core.Bool.{Bool, _&&_, false, true}
 use mathlib.Core.List.{List}
-use Rattle.model.specs.Records.{at}
-use Rattle.model.specs.Refusals.{Answer, done, number, refused}
+use Rattle.model.specs.Refusals.{Answer, done, refused}
 use Rattle.model.specs.Tables.{tableSized}
 use Rattle.model.specs.Verdicts.{labelOf}
 use Rattle.model.specs.declared.Counts.{Counts}

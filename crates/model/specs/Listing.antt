@@ -6,7 +6,6 @@ use mathlib.Core.Bool.{false, true}
 use mathlib.Core.List.{List, [], _++_, _∷_}
 use mathlib.Core.Option.{Option, none, some}
 use Rattle.model.specs.Calls.{screenAnswer, screenAnswers}
-use Rattle.model.specs.Least.{bytes}
 use Rattle.model.specs.Refusals.{Answer, done, refused}
 use Rattle.model.specs.Scripts.{Step, stepsIn}
 use Rattle.model.specs.Verdicts.{labelOf}

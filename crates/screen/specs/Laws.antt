@@ -2,7 +2,6 @@
 use Rattle.itinerary.specs.Laws.{answer-refused}
 use Prim.Native.Nat.{_%_, _+_, _/_, _≤_, suc, ℕ}
 use borrow.Author.Tests.{eq-eqb, eqb-true}
-use lib.Count.{ones}
 use lib.ListN.{length}
 use mathlib.Core.List.{List}
 use mathlib.Core.Path.{_∙_, _≡_, ap, refl, sym}

@@ -6,7 +6,7 @@ use mathlib.Core.Logic.{_≢_}
 use mathlib.Core.Path.{_∙_, _≡_, ap, refl, sym}
 use native.Mathlib.Decide.{ℕ-discrete}
 use native.Mathlib.Omega.{arith}
-use Rattle.model.specs.Climbing.{ambients, climb, hidden, isSuspect, nearest, standing}
+use Rattle.model.specs.Climbing.{ambients, climb, hidden, isSuspect, nearest, nesting, standing}
 use Rattle.model.specs.Laws.Containers.{ambient-and, ambients-here, hidden-root, hidden-suspect, hidden-up, nearest-amb, nearest-up}
 use Rattle.model.specs.Laws.Forest.{Depth, root, under}
 use Rattle.model.specs.Laws.Updates.{at-root}
@@ -66,3 +66,11 @@ module _ {its : List Rec} (wf : WellFormed its) where
       go : Dec (i ≡ 0) → nearest its (parentOf its i) ≡ from (parentOf its i) k .label → nearest its i ≡ from (parentOf its i) k .label
       go (yes e) ih = ap (nearest its) (e ∙ sym (ap (λ (r : Rec). r .parent) (at-root its)) ∙ ap (parentOf its) (sym e)) ∙ ih
       go (no z) ih = nearest-up wf i z (f 0 (omega arith)) ∙ ih
+
+  -- "or 0": where climbing meets no ambient
+  pub nearest-none : (i : ℕ) → ((k : ℕ) → isAmbient (from i k) ≡ false) → nearest its i ≡ 0
+  nearest-none i f = go (wf .reach i .1) f
+    where
+      go : {j d : ℕ} → Depth (parentOf its) j d → ((k : ℕ) → isAmbient (from j k) ≡ false) → nearest its j ≡ 0
+      go root g = view-top nesting wf
+      go (under {i = j} z r) g = nearest-up wf j z (g 0) ∙ go r (λ k. g (suc k))

@@ -7,7 +7,7 @@ use mathlib.Core.Logic.{_⊎_, inl, inr}
 use mathlib.Core.Option.{Option, none, some}
 use mathlib.Core.Path.{_∙_, _≡_, ap, refl, sym}
 use native.Mathlib.Omega.{arith}
-use Rattle.model.specs.Analysis.{Permit, holds}
+use Rattle.model.specs.Analysis.{Permit}
 use Rattle.model.specs.Climbing.{climb, nearest, nesting}
 use Rattle.model.specs.Finite.{lowest}
 use Rattle.model.specs.Laws.Checks.{and-make}

@@ -17,7 +17,7 @@ use Rattle.model.specs.Laws.Finite.{getD-tabulate, length-tabulate}
 use Rattle.model.specs.Laws.Forest.{Depth, depth-le, root, under-of}
 use Rattle.model.specs.Laws.Updates.{at-over, at-root}
 use Rattle.model.specs.Laws.Views.{depth-reaches, reaches-depth}
-use Rattle.model.specs.Laws.WellFormed.{Alive, WellFormed, alive-in, and-left, and-right, parent-in, shape, shape-labelled, shape-make, shape-named, small}
+use Rattle.model.specs.Laws.WellFormed.{Alive, WellFormed, alive-in, and-left, and-right, parent-in, shape, shape-labelled, shape-make, shape-named}
 use Rattle.model.specs.Records.{at, byte, byteOf, count, decode, encode, gone, nested, parentOf, records}
 use Rattle.model.specs.Refusals.{pass}
 use Rattle.model.specs.Validity.{blank, climbCheck, goneRight, kindRight, labelBy, labelRight, nameBy, nameRight, parentRight, recordCheck, sizeRight, spareRight, validity}

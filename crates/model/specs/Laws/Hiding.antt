@@ -3,7 +3,7 @@ use Prim.Native.Nat.{ℕ}
 use mathlib.Core.Bool.{Bool, false, true}
 use mathlib.Core.List.{List}
 use mathlib.Core.Path.{_∙_, _≡_, ap, refl, sym}
-use Rattle.model.specs.Analysis.{Permit, holds}
+use Rattle.model.specs.Analysis.{Permit}
 use Rattle.model.specs.Climbing.{hidden, hides, hiding}
 use Rattle.model.specs.Laws.Containers.{hidden-cross, hidden-nearest, hidden-suspect, hides-other, hides-same, hides-suspect, suspect-not-amb, suspect-of}
 use Rattle.model.specs.Laws.Done.{Done, Stays, in-beside, in-holder, open-beside, out-above, out-holder}

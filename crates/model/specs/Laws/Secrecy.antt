@@ -23,11 +23,11 @@ use Rattle.model.specs.Laws.SubjectReduction.{step-holds}
 use Rattle.model.specs.Laws.WellFormed.{and-right, small}
 use Rattle.model.specs.Noninterference.{Demand3, Event, EveryClient, HighGuarded, OnSheet, SuspectsGuarded, after, allSteps, before, given, stepAt}
 use Rattle.model.specs.Observer.{sheet, sheetOf}
-use Rattle.model.specs.Records.{at, byte, encode, isAmbient, records}
+use Rattle.model.specs.Records.{at, byte, encode, records}
 use Rattle.model.specs.Refusals.{answer, content, done, pass}
 use Rattle.model.specs.Scripts.{Step, afterList}
 use Rattle.model.specs.Steps.{answerOf, outcome, step, stepBytes}
-use Rattle.model.specs.Tables.{Table, bits, isBoundary, isHigh, parts, policyRight, suspects, tableRight}
+use Rattle.model.specs.Tables.{Table, bits, isBoundary, parts, policyRight, suspects, tableRight}
 use Rattle.model.specs.Validity.{validity}
 use Rattle.model.specs.declared.Rec.{Rec}
 use Rattle.model.specs.declared.Verdict.the-variants.{Sealed}

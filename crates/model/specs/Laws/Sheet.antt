@@ -7,7 +7,7 @@ use mathlib.Core.List.{List}
 use mathlib.Core.Logic.{_≢_}
 use mathlib.Core.Path.{_∙_, _≡_, ap, refl, sym}
 use native.Mathlib.Decide.{ℕ-discrete}
-use Rattle.model.specs.Analysis.{Permit, holds}
+use Rattle.model.specs.Analysis.{Permit}
 use Rattle.model.specs.Climbing.{hidden, isSuspect}
 use Rattle.model.specs.Laws.Containers.{hidden-cross, hidden-nearest, hidden-root, hidden-suspect, hidden-up, suspect-of}
 use Rattle.model.specs.Laws.Done.{Done, Stays, amb-alive, cap-alive, done-other, in-beside, in-holder, in-live, move-length, open-beside, out-above, out-live}

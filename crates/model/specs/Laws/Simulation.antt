@@ -5,7 +5,7 @@ use mathlib.Core.List.{List}
 use mathlib.Core.Logic.{_≢_}
 use mathlib.Core.Option.{Option, none, some}
 use mathlib.Core.Path.{_∙_, _≡_, ap, refl, sym}
-use Rattle.model.specs.Analysis.{Permit, holds}
+use Rattle.model.specs.Analysis.{Permit}
 use Rattle.model.specs.Climbing.{ambientAnd, ambients, hidden, isSuspect, standing}
 use Rattle.model.specs.Laws.Containers.{hidden-suspect, hidden-up, suspect-not-amb}
 use Rattle.model.specs.Laws.Done.{Done, Stays, amb-alive, cap-alive, cap-not-amb, done-of, done-other, move-length, open-beside, outcome-done}

@@ -5,7 +5,7 @@ use mathlib.Core.Bool.{Bool, false, true}
 use mathlib.Core.List.{List}
 use mathlib.Core.Option.{some}
 use mathlib.Core.Path.{_∙_, _≡_, ap, refl, sym}
-use Rattle.model.specs.Analysis.{Permit, holds}
+use Rattle.model.specs.Analysis.{Permit}
 use Rattle.model.specs.Climbing.{container, labelled, nearest, nesting}
 use Rattle.model.specs.Laws.Containers.{ambients-nearest, container-small, labelled-amb, labelled-other, labelled-same, nearest-amb}
 use Rattle.model.specs.Laws.Done.{Done, amb-alive, cap-alive, cap-nested, in-beside, in-holder, open-beside, out-above, out-holder, outcome-done}

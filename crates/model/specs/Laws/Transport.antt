@@ -1,7 +1,6 @@
 -- What the two changes of an itinerary, and a step that is done, do to any view of it, and to what a table says of
 -- every record and the value above it: one theorem, of which nesting and hiding are instances.
 use Prim.Native.Nat.{_<_, _≤_, ℕ}
-use borrow.Fn.Kinds.{In}
 use mathlib.Core.Bool.{false, true, true≢false}
 use mathlib.Core.List.{List}
 use mathlib.Core.Logic.{_≢_}
