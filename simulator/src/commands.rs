@@ -1,5 +1,6 @@
 //! Reads the arguments and does one command. `Ok(false)` means that what the
-//! command looks for was not as wanted; an error is about arguments or files.
+//! command looks for was not as wanted; an error is about arguments or files, or
+//! says that nothing was compared.
 
 use simulator::hub;
 use simulator::law::Law;
@@ -143,13 +144,26 @@ fn change(options: &Options) -> Result<Law> {
     }
 }
 
+/// A run that compared nothing must not pass for one that found no difference.
+fn compared(something: bool, what: &str) -> Result<()> {
+    if something {
+        Ok(())
+    } else {
+        Err(format!("nothing was compared: {what}"))
+    }
+}
+
 fn play(options: &Options) -> Result<bool> {
     let law = change(options)?;
+    compared(!options.words.is_empty(), "no file is named")?;
     let mut good = true;
     for name in &options.words {
         let file = fs::read(name).map_err(|problem| format!("{name}: {problem}"))?;
         match player::play(law, &file) {
-            Ok(calls) => println!("{name}: {calls} calls as expected"),
+            Ok(calls) => {
+                println!("{name}: {calls} calls as expected");
+                compared(calls > 0, &format!("{name} has no calls"))?;
+            }
             Err(difference) => {
                 println!("{name}: {difference}");
                 good = false;
@@ -160,12 +174,13 @@ fn play(options: &Options) -> Result<bool> {
 }
 
 fn reducts(options: &Options) -> Result<bool> {
-    let compared = term::compare(options.number("--seed")?, options.number("--count")?);
+    let sets = term::compare(options.number("--seed")?, options.number("--count")?);
     println!(
         "{} cases, {} of them with reducts, {} reducts compared, {} cases different",
-        compared.cases, compared.with_some, compared.reducts, compared.different
+        sets.cases, sets.with_some, sets.reducts, sets.different
     );
-    Ok(compared.different == 0)
+    compared(sets.reducts > 0, "no itinerary had a reduct")?;
+    Ok(sets.different == 0)
 }
 
 /// Under the document's law no counterexample may be found.
@@ -175,6 +190,9 @@ fn secrecy(options: &Options) -> Result<bool> {
     if let Some(case) = &found {
         print!("{}", text::print(&stored(Law::Document, case)));
     }
+    compared(tally.supposed > 0, "no pair was as supposed")?;
+    compared(tally.different > 0, "each pair as supposed was of two equal itineraries")?;
+    compared(tally.steps > 0, "no pair as supposed had a step")?;
     Ok(found.is_none())
 }
 
@@ -209,7 +227,8 @@ fn replay_folder(options: &Options) -> Result<bool> {
     let mut paths: Vec<_> = entries.flatten().map(|entry| entry.path()).collect();
     paths.retain(|path| path.extension().is_some_and(|extension| extension == "txt"));
     paths.sort();
-    let mut good = !paths.is_empty();
+    compared(!paths.is_empty(), &format!("{folder} has no counterexample"))?;
+    let mut good = true;
     for path in paths {
         let name = path.file_stem().unwrap_or_default().to_string_lossy().into_owned();
         let content = fs::read_to_string(&path).map_err(|problem| format!("{name}: {problem}"))?;
