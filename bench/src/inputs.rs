@@ -27,16 +27,22 @@ impl Lent {
         let (itinerary, policy) = (itinerary.bytes(), policies::usual().to_vec());
         let mut table = vec![0; TABLE_LENGTH];
         birnsket::make(&itinerary, &policy, &mut table).expect("a good itinerary");
+        Lent::bare(&itinerary, &policy, table)
+    }
+
+    /// No script, and no record named.
+    pub fn bare(itinerary: &[u8], policy: &[u8], table: Vec<u8>) -> Lent {
+        let (itinerary, policy) = (itinerary.to_vec(), policy.to_vec());
         let sheet = vec![0; itinerary.len()];
         Lent { itinerary, policy, table, script: vec![], answers: vec![], sheet, number: 0, partner: 0 }
     }
 
-    fn about(mut self, number: u16, partner: u16) -> Lent {
+    pub fn about(mut self, number: u16, partner: u16) -> Lent {
         (self.number, self.partner) = (number, partner);
         self
     }
 
-    fn with_script(mut self, steps: impl Iterator<Item = (u16, u16)>) -> Lent {
+    pub fn with_script(mut self, steps: impl Iterator<Item = (u16, u16)>) -> Lent {
         for (actor, partner) in steps {
             self.script.extend(actor.to_le_bytes());
             self.script.extend(partner.to_le_bytes());

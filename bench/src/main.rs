@@ -7,6 +7,7 @@ mod inputs;
 mod oracle;
 mod plain;
 mod rows;
+mod shapes;
 mod stack;
 mod timing;
 
@@ -18,14 +19,15 @@ const COUNT: usize = 300;
 fn main() -> ExitCode {
     let words: Vec<String> = std::env::args().skip(1).collect();
     let words: Vec<&str> = words.iter().map(String::as_str).collect();
+    let mut kept = true;
     match words[..] {
         ["time"] => rows::print(),
-        ["stack"] => stack::print(),
+        ["stack"] => kept = stack::print(),
         ["clingo"] => oracle::print(SEED, COUNT),
         [] => {
             rows::print();
             println!();
-            stack::print();
+            kept = stack::print();
             println!();
             oracle::print(SEED, COUNT);
         }
@@ -34,5 +36,9 @@ fn main() -> ExitCode {
             return ExitCode::from(2);
         }
     }
-    ExitCode::SUCCESS
+    if kept {
+        ExitCode::SUCCESS
+    } else {
+        ExitCode::FAILURE
+    }
 }

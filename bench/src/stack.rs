@@ -2,7 +2,8 @@
 //! made, and the lowest byte that lost its paint is looked for.
 
 use crate::figures::grouped;
-use crate::inputs::{self, Lent};
+use crate::inputs::Lent;
+use crate::shapes::{self, Shape};
 use std::hint::black_box;
 use std::thread;
 
@@ -57,12 +58,36 @@ const CALLS: [Measured; 10] = [
     ("screen", |l| birnsket::screen(&mut l.itinerary, &l.policy, &l.script, &mut l.answers).is_ok()),
 ];
 
-/// Prints the deepest of each call on chains of 1,024 records.
-pub fn print() {
-    let inputs = [inputs::reversed(), inputs::refused(), inputs::deep()];
-    println!("| call | stack |\n|---|---:|");
-    for (name, call) in CALLS {
-        let deepest = inputs.iter().map(|lent| depth(lent, call)).max().unwrap_or(0);
-        println!("| {name} | {} bytes |", grouped(deepest as u64));
+/// What include/birnsket.h says is enough.
+const PROMISED: usize = 128 << 10;
+
+/// The largest depth of the call, and the input that took it, the first of several. What is
+/// lent beside the itinerary is named where it makes a difference.
+fn deepest(shapes: &[Shape], call: fn(&mut Lent) -> bool) -> (usize, String) {
+    let taken: Vec<usize> = shapes.iter().map(|shape| depth(&shape.lent, call)).collect();
+    let most = taken.iter().copied().max().unwrap_or(0);
+    let Some(first) = taken.iter().position(|&bytes| bytes == most) else { return (0, String::new()) };
+    let Shape { itinerary, rest, .. } = &shapes[first];
+    let alike = |(shape, &bytes): (&Shape, &usize)| shape.itinerary != *itinerary || bytes == most;
+    if shapes.iter().zip(&taken).all(alike) {
+        (most, itinerary.clone())
+    } else {
+        (most, format!("{itinerary}; {rest}"))
     }
+}
+
+/// Prints the deepest of each call; says whether the header's promise is kept.
+pub fn print() -> bool {
+    let shapes = shapes::all();
+    println!("| call | stack | deepest input |\n|---|---:|---|");
+    let mut most = 0;
+    for (name, call) in CALLS {
+        let (taken, input) = deepest(&shapes, call);
+        println!("| {name} | {} bytes | {input} |", grouped(taken as u64));
+        most = most.max(taken);
+    }
+    let kept = most > OWN && most <= PROMISED;
+    let word = if kept { "within" } else { "NOT within" };
+    println!("{} inputs tried; {word} the {} bytes of the header.", shapes.len(), grouped(PROMISED as u64));
+    kept
 }
