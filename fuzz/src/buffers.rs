@@ -1,4 +1,4 @@
-//! The six buffers of the calls and the screen's label, and rooms with guards to lend them in.
+//! The six buffers of the calls and the screen's label.
 
 /// What is lent to a call; a call uses some of them.
 #[derive(Clone, Debug, Default, PartialEq, Eq)]
@@ -12,132 +12,86 @@ pub struct Buffers {
     pub label: u16,
 }
 
-pub const NAMES: [&str; 6] = ["itinerary", "policy", "table", "script", "answers", "sheet"];
+#[derive(Clone, Copy, Debug, PartialEq, Eq, PartialOrd, Ord)]
+pub enum Buffer {
+    Itinerary,
+    Policy,
+    Table,
+    Script,
+    Answers,
+    Sheet,
+}
+
+impl Buffer {
+    pub const ALL: [Buffer; 6] =
+        [Buffer::Itinerary, Buffer::Policy, Buffer::Table, Buffer::Script, Buffer::Answers, Buffer::Sheet];
+
+    pub fn name(self) -> &'static str {
+        ["itinerary", "policy", "table", "script", "answers", "sheet"][self as usize]
+    }
+
+    pub fn named(name: &str) -> Option<Buffer> {
+        Buffer::ALL.into_iter().find(|buffer| buffer.name() == name)
+    }
+
+    /// The greatest length that a call may take it with.
+    pub fn limit(self) -> usize {
+        [8192, 64, 1544, 4096, 1024, 8192][self as usize]
+    }
+}
 
 impl Buffers {
-    pub fn all(&self) -> [&[u8]; 6] {
-        [&self.itinerary, &self.policy, &self.table, &self.script, &self.answers, &self.sheet]
-    }
-}
-
-const GUARD: usize = 64;
-const SHIFTS: usize = 8;
-const MOST: usize = 8400;
-
-/// A buffer with guard bytes on both sides.
-pub struct Room {
-    bytes: Vec<u8>,
-    start: usize,
-    length: usize,
-    guard: u8,
-}
-
-impl Room {
-    fn new() -> Room {
-        Room { bytes: vec![0; GUARD + SHIFTS + MOST + GUARD], start: GUARD, length: 0, guard: 0 }
-    }
-
-    /// Puts the content at that shift from an aligned place and sets the guards.
-    fn load(&mut self, content: &[u8], shift: usize, guard: u8) {
-        (self.start, self.length, self.guard) = (GUARD + shift % SHIFTS, content.len(), guard);
-        let (start, end) = (self.start, self.start + self.length);
-        self.bytes[start - GUARD..start].fill(guard);
-        self.bytes[start..end].copy_from_slice(content);
-        self.bytes[end..end + GUARD].fill(guard);
-    }
-
-    pub fn content(&self) -> &[u8] {
-        &self.bytes[self.start..self.start + self.length]
-    }
-
-    pub fn content_mut(&mut self) -> &mut [u8] {
-        &mut self.bytes[self.start..self.start + self.length]
-    }
-
-    /// Whether no guard byte was changed.
-    fn is_guarded(&self) -> bool {
-        let end = self.start + self.length;
-        let kept = |part: &[u8]| part.iter().all(|&byte| byte == self.guard);
-        kept(&self.bytes[self.start - GUARD..self.start]) && kept(&self.bytes[end..end + GUARD])
-    }
-}
-
-/// A number with a guard number on both sides.
-pub struct Cell {
-    numbers: [u16; 3],
-    guard: u16,
-}
-
-impl Cell {
-    fn load(&mut self, content: u16, guard: u16) {
-        *self = Cell { numbers: [guard, content, guard], guard };
-    }
-
-    pub fn content_mut(&mut self) -> &mut u16 {
-        &mut self.numbers[1]
-    }
-}
-
-/// The rooms of all six buffers, and the label's.
-pub struct Rooms {
-    pub itinerary: Room,
-    pub policy: Room,
-    pub table: Room,
-    pub script: Room,
-    pub answers: Room,
-    pub sheet: Room,
-    pub label: Cell,
-}
-
-impl Rooms {
-    pub fn new() -> Rooms {
-        Rooms {
-            itinerary: Room::new(),
-            policy: Room::new(),
-            table: Room::new(),
-            script: Room::new(),
-            answers: Room::new(),
-            sheet: Room::new(),
-            label: Cell { numbers: [0; 3], guard: 0 },
+    pub fn get(&self, buffer: Buffer) -> &Vec<u8> {
+        match buffer {
+            Buffer::Itinerary => &self.itinerary,
+            Buffer::Policy => &self.policy,
+            Buffer::Table => &self.table,
+            Buffer::Script => &self.script,
+            Buffer::Answers => &self.answers,
+            Buffer::Sheet => &self.sheet,
         }
     }
 
-    /// Loads all rooms; `noise` decides shifts and guard bytes.
-    pub fn load(&mut self, buffers: &Buffers, noise: u64) {
-        let guard = (noise >> 32) as u8;
-        let shift = |place: usize| (noise >> (4 * place)) as usize;
-        self.itinerary.load(&buffers.itinerary, shift(0), guard);
-        self.policy.load(&buffers.policy, shift(1), guard);
-        self.table.load(&buffers.table, shift(2), guard);
-        self.script.load(&buffers.script, shift(3), guard);
-        self.answers.load(&buffers.answers, shift(4), guard);
-        self.sheet.load(&buffers.sheet, shift(5), guard);
-        self.label.load(buffers.label, u16::from(guard));
-    }
-
-    fn all(&self) -> [&Room; 6] {
-        [&self.itinerary, &self.policy, &self.table, &self.script, &self.answers, &self.sheet]
-    }
-
-    /// What is not as expected: contents, then guards.
-    pub fn differences(&self, expected: &Buffers) -> Vec<String> {
-        let mut found = Vec::new();
-        for ((room, name), wanted) in self.all().into_iter().zip(NAMES).zip(expected.all()) {
-            if room.content() != wanted {
-                found.push(format!("{name} is {}\n  not {}", hex(room.content()), hex(wanted)));
-            }
-            if !room.is_guarded() {
-                found.push(format!("{name}: a guard byte was changed"));
-            }
+    pub fn get_mut(&mut self, buffer: Buffer) -> &mut Vec<u8> {
+        match buffer {
+            Buffer::Itinerary => &mut self.itinerary,
+            Buffer::Policy => &mut self.policy,
+            Buffer::Table => &mut self.table,
+            Buffer::Script => &mut self.script,
+            Buffer::Answers => &mut self.answers,
+            Buffer::Sheet => &mut self.sheet,
         }
-        let wanted = [self.label.guard, expected.label, self.label.guard];
-        if self.label.numbers != wanted {
-            found.push(format!("guard, label, guard are {:?}\n  not {wanted:?}", self.label.numbers));
-        }
-        found
     }
 }
 
+/// One buffer lent as a part of another.
+#[derive(Clone, Copy, Debug, PartialEq, Eq)]
+pub struct Overlap {
+    pub inner: Buffer,
+    pub outer: Buffer,
+    /// Where in the outer one, and how long.
+    pub at: usize,
+    pub length: usize,
+}
+
+impl Overlap {
+    /// Gives the inner buffer the content of its part of the outer one, if that has the part.
+    pub fn put(&self, buffers: &mut Buffers) -> bool {
+        let part = buffers.get(self.outer).get(self.at..self.at + self.length).map(<[u8]>::to_vec);
+        match part {
+            Some(part) => *buffers.get_mut(self.inner) = part,
+            None => return false,
+        }
+        true
+    }
+}
+
+/// All bytes as hex; of a long buffer the first and the length.
 pub fn hex(bytes: &[u8]) -> String {
-    bytes.iter().map(|byte| format!("{byte:02x}")).collect()
+    let shown = &bytes[..bytes.len().min(10_000)];
+    let text: String = shown.iter().map(|byte| format!("{byte:02x}")).collect();
+    if shown.len() < bytes.len() {
+        return format!("{text}.. ({} bytes)", bytes.len());
+    }
+    text
 }

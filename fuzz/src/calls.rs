@@ -1,6 +1,7 @@
 //! A call of the simulator, of the library's entry, and of the safe wrapper.
 
-use crate::buffers::{Buffers, Rooms};
+use crate::buffers::{Buffer, Buffers, Overlap};
+use crate::rooms::Rooms;
 use birnsket::raw;
 use birnsket::{Refusal, Verdict};
 
@@ -32,6 +33,32 @@ impl Call {
             Call::Row(_) => "row",
             Call::Screen => "screen",
         }
+    }
+}
+
+impl Call {
+    /// The buffers that it is lent, and whether it may write them.
+    pub fn lent(self) -> &'static [(Buffer, bool)] {
+        use Buffer::*;
+        match self {
+            Call::Validate | Call::Container(_) => &[(Itinerary, false)],
+            Call::Sheet => &[(Itinerary, false), (Table, false), (Sheet, true)],
+            Call::Step(..) => &[(Itinerary, true)],
+            Call::Run => &[(Itinerary, true), (Script, false), (Answers, true)],
+            Call::Check | Call::Verdict => &[(Itinerary, false), (Policy, false), (Table, false)],
+            Call::Make => &[(Itinerary, false), (Policy, false), (Table, true)],
+            Call::Row(_) => &[(Table, false)],
+            Call::Screen => &[(Itinerary, true), (Policy, false), (Script, false), (Answers, true)],
+        }
+    }
+
+    pub fn is_lent(self, buffer: Buffer) -> bool {
+        self.lent().iter().any(|&(lent, _)| lent == buffer)
+    }
+
+    /// Whether it only reads both.
+    pub fn reads_both(self, overlap: Overlap) -> bool {
+        [overlap.inner, overlap.outer].iter().all(|&buffer| self.lent().contains(&(buffer, false)))
     }
 }
 
@@ -68,27 +95,25 @@ macro_rules! enter {
         enter!(@ $entry, [$($buffer),+], [$($($number),+)?])
     };
     (@ $entry:ident, [$a:expr], [$($n:expr),*]) => {
-        unsafe { raw::$entry($a.as_mut_ptr(), $a.len(), $($n),*) }
+        unsafe { raw::$entry($a.start, $a.length, $($n),*) }
     };
     (@ $entry:ident, [$a:expr, $b:expr, $c:expr], []) => {
-        unsafe { raw::$entry($a.as_mut_ptr(), $a.len(), $b.as_mut_ptr(), $b.len(), $c.as_mut_ptr(), $c.len()) }
+        unsafe { raw::$entry($a.start, $a.length, $b.start, $b.length, $c.start, $c.length) }
     };
     (@ $entry:ident, [$a:expr, $b:expr, $c:expr, $d:expr], [$n:expr]) => {
         unsafe {
             raw::$entry(
-                $a.as_mut_ptr(), $a.len(), $b.as_mut_ptr(), $b.len(),
-                $c.as_mut_ptr(), $c.len(), $d.as_mut_ptr(), $d.len(), $n,
+                $a.start, $a.length, $b.start, $b.length,
+                $c.start, $c.length, $d.start, $d.length, $n,
             )
         }
     };
 }
 
-/// The library's entry. The rooms are apart and live through the call, so that the
-/// caller's duties are kept.
+/// The library's entry. The rooms are apart and live through the call, and only buffers
+/// that the call doesn't write overlap, so that the caller's duties are kept.
 pub fn enter(call: Call, lent: &mut Rooms) -> Answer {
-    let (it, policy) = (lent.itinerary.content_mut(), lent.policy.content_mut());
-    let (table, script) = (lent.table.content_mut(), lent.script.content_mut());
-    let (answers, sheet) = (lent.answers.content_mut(), lent.sheet.content_mut());
+    let [it, policy, table, script, answers, sheet] = Buffer::ALL.map(|buffer| lent.part(buffer));
     let r = match call {
         Call::Validate => enter!(hub_validate, it),
         Call::Container(number) => enter!(hub_container, it; number),
@@ -99,30 +124,43 @@ pub fn enter(call: Call, lent: &mut Rooms) -> Answer {
         Call::Make => enter!(hub_make, it, policy, table),
         Call::Verdict => enter!(hub_verdict, it, policy, table),
         Call::Row(label) => enter!(hub_row, table; label),
-        Call::Screen => enter!(hub_screen, it, policy, script, answers; lent.label.content_mut()),
+        Call::Screen => enter!(hub_screen, it, policy, script, answers; lent.label()),
     };
     [r.number, r.at, r.v0, r.v1, r.v2, r.v3, r.v4, r.v5]
 }
 
-/// The same through the safe wrapper.
+/// The same through the safe wrapper. Each slice is made for the one call.
 pub fn enter_safely(call: Call, lent: &mut Rooms) -> Answer {
-    let (it, policy) = (lent.itinerary.content_mut(), lent.policy.content());
-    let (table, script) = (lent.table.content_mut(), lent.script.content());
-    let (answers, sheet) = (lent.answers.content_mut(), lent.sheet.content_mut());
+    let [it, policy, table, script, answers, sheet] = Buffer::ALL.map(|buffer| lent.part(buffer));
     let done = match call {
-        Call::Validate => birnsket::validate(it).map(|count| vec![count]),
-        Call::Container(number) => birnsket::container(it, number).map(|label| vec![u16::from(label)]),
-        Call::Sheet => birnsket::sheet(it, table, sheet).map(|()| vec![]),
-        Call::Step(actor, partner) => birnsket::step(it, actor, partner).map(|()| vec![]),
-        Call::Run => birnsket::run(it, script, answers).map(|c| vec![c.ins, c.outs, c.opens]),
-        Call::Check => birnsket::check(it, policy, table).map(|()| vec![]),
-        Call::Make => birnsket::make(it, policy, table).map(|ones| vec![ones]),
-        Call::Verdict => birnsket::verdict(it, policy, table).map(|v| vec![code(v).0, code(v).1]),
-        Call::Row(label) => Ok(part(table, birnsket::row(table, label))),
-        Call::Screen => birnsket::screen(it, policy, script, answers).map(|screen| {
-            *lent.label.content_mut() = code(screen.verdict).1;
-            shown(screen)
-        }),
+        Call::Validate => birnsket::validate(unsafe { it.shared() }).map(|count| vec![count]),
+        Call::Container(number) => {
+            birnsket::container(unsafe { it.shared() }, number).map(|label| vec![u16::from(label)])
+        }
+        Call::Sheet => {
+            unsafe { birnsket::sheet(it.shared(), table.shared(), sheet.unique()) }.map(|()| vec![])
+        }
+        Call::Step(actor, partner) => birnsket::step(unsafe { it.unique() }, actor, partner).map(|()| vec![]),
+        Call::Run => unsafe { birnsket::run(it.unique(), script.shared(), answers.unique()) }
+            .map(|c| vec![c.ins, c.outs, c.opens]),
+        Call::Check => {
+            unsafe { birnsket::check(it.shared(), policy.shared(), table.shared()) }.map(|()| vec![])
+        }
+        Call::Make => {
+            unsafe { birnsket::make(it.shared(), policy.shared(), table.unique()) }.map(|ones| vec![ones])
+        }
+        Call::Verdict => unsafe { birnsket::verdict(it.shared(), policy.shared(), table.shared()) }
+            .map(|v| vec![code(v).0, code(v).1]),
+        Call::Row(label) => Ok(part(unsafe { table.shared() }, label)),
+        Call::Screen => {
+            let (it, answers) = unsafe { (it.unique(), answers.unique()) };
+            birnsket::screen(it, unsafe { policy.shared() }, unsafe { script.shared() }, answers).map(
+                |screen| {
+                    unsafe { *lent.label() = code(screen.verdict).1 };
+                    shown(screen)
+                },
+            )
+        }
     };
     packed(done)
 }
@@ -135,8 +173,9 @@ fn code(verdict: Verdict) -> (u16, u16) {
     }
 }
 
-/// Offset and length of a part of the table.
-fn part(table: &[u8], row: &[u8]) -> Vec<u16> {
+/// Offset and length of a label's part of the table.
+fn part(table: &[u8], label: u8) -> Vec<u16> {
+    let row = birnsket::row(table, label);
     vec![(row.as_ptr() as usize - table.as_ptr() as usize) as u16, row.len() as u16]
 }
 

@@ -1,7 +1,11 @@
 //! Drawing inputs: small ones mostly, good and damaged, and calls on them.
 
-use crate::buffers::Buffers;
+use crate::buffers::{Buffer, Buffers, Overlap};
 use crate::calls::Call;
+use crate::families::Family;
+use crate::overlaps;
+use crate::rings;
+use crate::rooms::MOST;
 use simulator::generate::damage::damage;
 use simulator::generate::examples;
 use simulator::generate::policies;
@@ -15,29 +19,35 @@ use simulator::table::{Policy, POLICY_LENGTH, TABLE_LENGTH};
 
 /// Buffers, and what is needed to draw changes that fit them.
 pub struct Case {
+    pub family: Family,
     pub buffers: Buffers,
+    overlap: Option<Overlap>,
     first: Vec<u8>,
     relabel: Relabel,
 }
 
-/// An itinerary and a policy, before relabelling. One in 2,000 is full or a long chain.
-fn draw_bench(random: &mut Random) -> (Itinerary, Policy) {
-    let itinerary = match random.below(4000) {
-        0 => {
-            let mix = Mix::full(random);
-            tree(random, &mix)
+fn of_mix(random: &mut Random, mix: fn(&mut Random) -> Mix) -> Itinerary {
+    let mix = mix(random);
+    tree(random, &mix)
+}
+
+/// An itinerary and a policy, before relabelling.
+fn draw_bench(random: &mut Random, family: Family) -> (Itinerary, Policy) {
+    let itinerary = match family {
+        Family::Hinted if random.chance(92) => return policies::with_verdict(random, 2),
+        Family::Hinted => return (examples::environment_suspect(), policies::usual()),
+        Family::Medium => of_mix(random, Mix::medium),
+        Family::Large => {
+            of_mix(random, |random| Mix { records: random.between(81, 1023), ..Mix::medium(random) })
         }
-        1 => draw_chain(random),
-        2..=61 => {
-            let mix = Mix::medium(random);
-            tree(random, &mix)
-        }
-        62..=161 => return policies::with_verdict(random, 2),
-        162..=169 => return (examples::environment_suspect(), policies::usual()),
-        other => {
-            let mix = if other % 2 == 0 { Mix::small(random) } else { Mix::lively(random) };
-            tree(random, &mix)
-        }
+        Family::Full => of_mix(random, Mix::full),
+        Family::Chain => draw_chain(random),
+        Family::Empty => Itinerary { records: vec![] },
+        Family::Ring => rings::some_ring(random),
+        Family::FullRing => rings::full_ring(random),
+        Family::TailIntoRing => rings::tail_into_ring(random),
+        _ if random.chance(50) => of_mix(random, Mix::small),
+        _ => of_mix(random, Mix::lively),
     };
     let policy = match random.below(100) {
         0..=54 => policies::good(random),
@@ -100,23 +110,68 @@ fn draw_script(random: &mut Random, itinerary: &Itinerary) -> (Vec<u8>, Vec<u8>)
     (script, vec![random.byte(); room])
 }
 
+/// Makes a buffer far longer than it may be, and most of the time the one that must fit it as well; some lengths are
+/// right in their low 16 bits.
+fn lengthen(random: &mut Random, buffer: Buffer, buffers: &mut Buffers) {
+    let (limit, length) = (buffer.limit(), buffers.get(buffer).len());
+    let length = match random.below(8) {
+        0 => limit + random.between(1, 8),
+        1 => 2 * limit,
+        2 => random.pick(&[8193, 8200, 16_384]),
+        3 | 4 => (1 << 16) + length,
+        5 => (1 << 19) + length,
+        6 => random.between(8193, MOST),
+        _ => MOST,
+    };
+    let (length, fill) = (length.clamp(limit + 1, MOST), if random.chance(50) { 0 } else { random.byte() });
+    buffers.get_mut(buffer).resize(length, fill);
+    match buffer {
+        Buffer::Itinerary if random.chance(80) => buffers.sheet.resize(length, fill),
+        Buffer::Script if random.chance(80) => buffers.answers.resize(length / 4, fill),
+        _ => {}
+    }
+}
+
 impl Case {
-    pub fn draw(random: &mut Random) -> Case {
+    pub fn draw(random: &mut Random, family: Family) -> Case {
         let relabel = Relabel::draw(random);
-        let (itinerary, policy) = draw_bench(random);
+        let (itinerary, policy) = draw_bench(random, family);
         let (itinerary, policy) = (relabel.itinerary(&itinerary), relabel.policy(&policy));
+        // What climbs would never end on a ring.
+        let ring = matches!(family, Family::Ring | Family::FullRing | Family::TailIntoRing);
+        let climbable = if ring { &Itinerary { records: vec![] } } else { &itinerary };
         let table = match random.below(50) {
-            0 => tables::above_made(random, &relabel, &itinerary, &policy).bytes.to_vec(),
+            0 => tables::above_made(random, &relabel, climbable, &policy).bytes.to_vec(),
             _ => draw_table(random, &relabel),
         };
-        let (script, answers) = draw_script(random, &itinerary);
+        let (script, answers) = draw_script(random, climbable);
         let policy = if random.chance(8) { policies::bad(random) } else { policy.to_vec() };
         let mut bytes = itinerary.bytes();
-        spoil(random, &mut bytes);
+        if matches!(family, Family::Small | Family::Medium | Family::Large | Family::Full | Family::Hinted) {
+            spoil(random, &mut bytes);
+        }
         let sheet = vec![random.byte(); bytes.len()];
-        let first = bytes.clone();
-        let buffers = Buffers { itinerary: bytes, policy, table, script, answers, sheet, label: 0 };
-        Case { buffers, first, relabel }
+        let mut buffers = Buffers { itinerary: bytes, policy, table, script, answers, sheet, label: 0 };
+        if let Family::Long(buffer) = family {
+            lengthen(random, buffer, &mut buffers);
+        }
+        let overlap = overlaps::overlap(random, family, &mut buffers);
+        let first = buffers.itinerary.clone();
+        Case { family, buffers, overlap, first, relabel }
+    }
+
+    /// How this call's buffers overlap; the inner one then has its part of the outer one.
+    pub fn overlapping(&mut self, call: Call) -> Option<Overlap> {
+        let fitting = self.overlap.filter(|&overlap| call.reads_both(overlap));
+        fitting.filter(|overlap| overlap.put(&mut self.buffers))
+    }
+
+    /// Whether the next call could show what the family is about.
+    fn suits(&self, call: Call) -> bool {
+        match self.overlap {
+            Some(overlap) => call.reads_both(overlap),
+            None => self.family.is_seen_by(call, &self.buffers, None),
+        }
     }
 
     /// Some change before the next call, seldom of more than one buffer.
@@ -152,6 +207,14 @@ impl Case {
         if first && random.chance(70) {
             return Call::Make;
         }
+        let call = self.any_call(random);
+        if self.suits(call) || random.chance(50) {
+            return call;
+        }
+        (0..30).map(|_| self.any_call(random)).find(|&call| self.suits(call)).unwrap_or(call)
+    }
+
+    fn any_call(&self, random: &mut Random) -> Call {
         match random.below(100) {
             0..=5 => Call::Validate,
             6..=12 => Call::Container(self.any_number(random)),

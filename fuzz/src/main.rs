@@ -3,93 +3,120 @@
 mod buffers;
 mod calls;
 mod draw;
+mod families;
+mod memory;
+mod options;
+mod overlaps;
+mod rings;
+mod rooms;
 mod tally;
 
-use buffers::{hex, Buffers, Rooms, NAMES};
+use buffers::{hex, Buffer, Buffers, Overlap};
 use calls::{enter, enter_safely, simulate, Answer, Call};
 use draw::Case;
+use families::{Family, FAMILIES};
+use options::Options;
+use rooms::Rooms;
 use simulator::random::Random;
 use std::process::ExitCode;
 use std::time::Instant;
 use tally::Tally;
 
-const CALLS_A_CASE: usize = 20;
+const CALLS_A_CASE: u64 = 20;
 
-/// Numbers after `--seed` and `--calls`.
-fn arguments() -> Option<(u64, u64)> {
-    let words: Vec<String> = std::env::args().skip(1).collect();
-    let (mut seed, mut calls) = (1, 100_000);
-    for pair in words.chunks(2) {
-        let number = pair.get(1)?.parse().ok()?;
-        match pair[0].as_str() {
-            "--seed" => seed = number,
-            "--calls" => calls = number,
-            _ => return None,
+struct Fuzzer {
+    options: Options,
+    random: Random,
+    rooms: Rooms,
+    tally: Tally,
+}
+
+impl Fuzzer {
+    /// Makes the call on both sides; leaves the buffers as after it, or says what differs.
+    fn compare(
+        &mut self,
+        call: Call,
+        lent: &mut Buffers,
+        overlap: Option<Overlap>,
+    ) -> Result<Answer, String> {
+        let noise = self.random.next();
+        // No label is over 63, so that one not written is seen, and so is one written by a refusal.
+        lent.label = noise as u16 | 0x100;
+        let mut expected = lent.clone();
+        let wanted = simulate(call, &mut expected);
+        self.rooms.load(lent, overlap, noise);
+        // A spoilt room is no slice.
+        let safely = noise >> 62 == 0 && self.options.lending.spoilt.is_none();
+        let got = if safely { enter_safely(call, &mut self.rooms) } else { enter(call, &mut self.rooms) };
+        let mut found = self.rooms.differences(&expected);
+        if got != wanted {
+            found.push(format!("the answer is {got:?}\n  not {wanted:?}"));
         }
+        if found.is_empty() {
+            *lent = expected;
+            return Ok(got);
+        }
+        let inputs = Buffer::ALL.map(|buffer| format!("{} {}\n", buffer.name(), hex(lent.get(buffer))));
+        Err(format!("{call:?}, {overlap:?}\n{}{}", inputs.concat(), found.join("\n")))
     }
-    Some((seed, calls))
-}
 
-/// Makes the call on both sides; leaves the buffers as after it, or says what differs.
-fn compare(call: Call, lent: &mut Buffers, rooms: &mut Rooms, noise: u64) -> Result<Answer, String> {
-    // No label is over 63, so that one not written is seen, and so is one written by a refusal.
-    lent.label = noise as u16 | 0x100;
-    let mut expected = lent.clone();
-    let wanted = simulate(call, &mut expected);
-    rooms.load(lent, noise);
-    let safely = noise >> 62 == 0;
-    let got = if safely { enter_safely(call, rooms) } else { enter(call, rooms) };
-    let mut found = rooms.differences(&expected);
-    if got != wanted {
-        found.push(format!("the answer is {got:?}\n  not {wanted:?}"));
-    }
-    if found.is_empty() {
-        *lent = expected;
-        return Ok(got);
-    }
-    let inputs = NAMES.iter().zip(lent.all()).map(|(name, bytes)| format!("{name} {}\n", hex(bytes)));
-    Err(format!("{call:?}\n{}{}", inputs.collect::<String>(), found.join("\n")))
-}
-
-fn fuzz(seed: u64, calls: u64, tally: &mut Tally) -> Result<(), String> {
-    let mut random = Random::new(seed);
-    let mut rooms = Rooms::new();
-    let mut made = 0;
-    while made < calls {
-        let mut case = Case::draw(&mut random);
-        for place in 0..CALLS_A_CASE {
-            case.disturb(&mut random);
-            let call = case.next_call(&mut random, place == 0);
-            let noise = random.next();
-            let answer = compare(call, &mut case.buffers, &mut rooms, noise)
-                .map_err(|difference| format!("call {made} of seed {seed}: {difference}"))?;
-            tally.add(call, &answer, &case.buffers.answers);
-            made += 1;
-            if made == calls {
-                break;
+    /// That many calls on a case, each on what the last one left.
+    fn fuzz_case(&mut self, mut case: Case, calls: u64) -> Result<(), String> {
+        self.tally.add_case();
+        for place in 0..calls {
+            case.disturb(&mut self.random);
+            let call = case.next_call(&mut self.random, place == 0);
+            let overlap = case.overlapping(call);
+            let seen = case.family.is_seen_by(call, &case.buffers, overlap);
+            if self.options.trace {
+                eprintln!("{}: {call:?}, {overlap:?}", case.family.name());
+            }
+            let answer = self.compare(call, &mut case.buffers, overlap)?;
+            self.tally.add(call, &answer, &case.buffers.answers);
+            if seen {
+                self.tally.add_seen(case.family);
             }
         }
+        Ok(())
     }
-    Ok(())
+
+    /// The first cases are one of each family, so that a short run meets all of them.
+    fn fuzz(&mut self) -> Result<(), String> {
+        let mut left = self.options.calls;
+        let mut firsts = FAMILIES.iter().map(|(family, _)| *family);
+        while left > 0 {
+            let family = firsts.next().unwrap_or_else(|| Family::draw(&mut self.random));
+            let case = Case::draw(&mut self.random, family);
+            let calls = left.min(CALLS_A_CASE);
+            self.fuzz_case(case, calls).map_err(|difference| {
+                format!("a case after {} calls: {difference}", self.options.calls - left)
+            })?;
+            left -= calls;
+        }
+        Ok(())
+    }
 }
 
 fn main() -> ExitCode {
-    let Some((seed, calls)) = arguments() else {
-        eprintln!("usage: fuzz [--seed N] [--calls M]");
+    let words: Vec<String> = std::env::args().skip(1).collect();
+    let Some(options) = Options::read(&words) else {
+        eprintln!("{}", options::USAGE);
         return ExitCode::from(2);
     };
     let start = Instant::now();
-    let mut tally = Tally::default();
-    let outcome = fuzz(seed, calls, &mut tally);
-    tally.print();
-    match outcome {
-        Ok(()) => {
-            println!("{calls} calls, no difference, {:.1} s", start.elapsed().as_secs_f64());
-            ExitCode::SUCCESS
-        }
-        Err(difference) => {
-            println!("DIFFERENCE at {difference}");
-            ExitCode::FAILURE
-        }
+    let (random, rooms) = (Random::new(options.seed), Rooms::new(options.lending));
+    let mut fuzzer = Fuzzer { options, random, rooms, tally: Tally::default() };
+    let outcome = fuzzer.fuzz();
+    fuzzer.tally.print();
+    if let Err(difference) = outcome {
+        println!("DIFFERENCE in {difference}");
+        return ExitCode::FAILURE;
     }
+    let missing = fuzzer.tally.missing();
+    if !missing.is_empty() {
+        println!("NEVER MET: {}", missing.join(", "));
+        return ExitCode::FAILURE;
+    }
+    println!("{} calls, no difference, {:.1} s", fuzzer.options.calls, start.elapsed().as_secs_f64());
+    ExitCode::SUCCESS
 }

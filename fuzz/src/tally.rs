@@ -1,41 +1,112 @@
-//! Counts of what was answered.
+//! Counts of what was lent and answered, and what a run has to have met.
 
 use crate::calls::{Answer, Call};
+use crate::families::{Family, FAMILIES};
 use std::collections::BTreeMap;
+
+/// Calls after which each answer of each call is met by far.
+const ENOUGH: u64 = 200_000;
+
+/// The numbers that a call can answer beside 0 and, but for the row, 1 to 6.
+const OWN_NUMBERS: [(&str, &[u16]); 10] = [
+    ("validate", &[]),
+    ("container", &[]),
+    ("sheet", &[8, 14]),
+    ("step", &[10, 11, 12]),
+    ("run", &[13]),
+    ("check", &[7, 8, 9]),
+    ("make", &[7, 8]),
+    ("verdict", &[7, 8, 9]),
+    ("row", &[]),
+    ("screen", &[7, 13]),
+];
+const VERDICTS: [&str; 4] = ["", "exposed", "hinted", "sealed"];
 
 #[derive(Default)]
 pub struct Tally {
+    calls: u64,
+    cases: usize,
+    families: BTreeMap<Family, u64>,
     numbers: BTreeMap<(&'static str, u16), u64>,
-    steps: [u64; 16],
-    verdicts: [u64; 4],
+    steps: BTreeMap<u8, u64>,
+    verdicts: BTreeMap<(&'static str, u16), u64>,
 }
 
 impl Tally {
+    pub fn add_case(&mut self) {
+        self.cases += 1;
+    }
+
+    /// Counts a call that saw what makes the family.
+    pub fn add_seen(&mut self, family: Family) {
+        *self.families.entry(family).or_default() += 1;
+    }
+
     /// Counts a call; `answers` are the answer bytes as they are after it.
     pub fn add(&mut self, call: Call, answer: &Answer, answers: &[u8]) {
+        self.calls += 1;
         *self.numbers.entry((call.name(), answer[0])).or_default() += 1;
         if answer[0] != 0 {
             return;
         }
-        match call {
-            Call::Verdict | Call::Screen => self.verdicts[usize::from(answer[2])] += 1,
-            _ => {}
+        if matches!(call, Call::Verdict | Call::Screen) {
+            *self.verdicts.entry((call.name(), answer[2])).or_default() += 1;
         }
         if matches!(call, Call::Run | Call::Screen) {
             for &byte in answers {
-                self.steps[usize::from(byte)] += 1;
+                *self.steps.entry(byte).or_default() += 1;
             }
         }
     }
 
+    /// What a run of this length should have met and didn't; a run without calls met nothing.
+    pub fn missing(&self) -> Vec<String> {
+        let mut missing = Vec::new();
+        if self.calls == 0 {
+            missing.push("any call".to_string());
+        }
+        // The first cases are one of each family.
+        if self.cases > FAMILIES.len() {
+            let absent = FAMILIES.iter().filter(|(family, _)| !self.families.contains_key(family));
+            missing.extend(absent.map(|(family, _)| family.name()));
+        }
+        if self.calls >= ENOUGH {
+            missing.extend(self.missing_answers());
+        }
+        missing
+    }
+
+    fn missing_answers(&self) -> Vec<String> {
+        let mut missing = Vec::new();
+        for (call, own) in OWN_NUMBERS {
+            let common: &[u16] = if call == "row" { &[0] } else { &[0, 1, 2, 3, 4, 5, 6] };
+            let numbers = common.iter().chain(own);
+            let absent = numbers.filter(|&&number| !self.numbers.contains_key(&(call, number)));
+            missing.extend(absent.map(|number| format!("{call} {number}")));
+        }
+        for call in ["verdict", "screen"] {
+            let absent = (1..4).filter(|&code| !self.verdicts.contains_key(&(call, code)));
+            missing.extend(absent.map(|code| format!("{call} {}", VERDICTS[usize::from(code)])));
+        }
+        let absent = [0, 10, 11, 12].into_iter().filter(|number| !self.steps.contains_key(number));
+        missing.extend(absent.map(|number| format!("step {number} of a script")));
+        missing
+    }
+
     pub fn print(&self) {
+        println!("calls that saw a family");
+        for (family, count) in &self.families {
+            println!("{}: {count}", family.name());
+        }
         println!("call answer count");
         for ((call, number), count) in &self.numbers {
             println!("{call} {number} {count}");
         }
-        let [_, exposed, hinted, sealed] = self.verdicts;
-        println!("verdicts: exposed {exposed}, hinted {hinted}, sealed {sealed}");
-        let [done, actor, inactive, partner] = [0, 10, 11, 12].map(|number: usize| self.steps[number]);
-        println!("steps in scripts: 0 {done}, 10 {actor}, 11 {inactive}, 12 {partner}");
+        for ((call, code), count) in &self.verdicts {
+            println!("{call} {} {count}", VERDICTS[usize::from(*code)]);
+        }
+        for (number, count) in &self.steps {
+            println!("step of a script {number} {count}");
+        }
     }
 }
