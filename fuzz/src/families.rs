@@ -35,14 +35,14 @@ use Family::*;
 pub const FAMILIES: [(Family, usize); 22] = [
     (Small, 0),
     (Medium, 60),
-    (Large, 4),
-    (Full, 1),
-    (Chain, 1),
+    (Large, 8),
+    (Full, 2),
+    (Chain, 2),
     (Hinted, 108),
     (Empty, 20),
     (Ring, 6),
-    (FullRing, 2),
-    (TailIntoRing, 4),
+    (FullRing, 4),
+    (TailIntoRing, 6),
     (Long(Buffer::Itinerary), 6),
     (Long(Buffer::Policy), 6),
     (Long(Buffer::Table), 6),
@@ -89,6 +89,12 @@ impl Family {
             PolicyInScript => "policy in script".to_string(),
             ScriptInPolicy => "script in policy".to_string(),
         }
+    }
+
+    /// Whether calls that see what makes it can be done. No row request is ever refused.
+    pub fn can_be_done(self) -> bool {
+        !matches!(self, Ring | FullRing | TailIntoRing)
+            && (self == Long(Buffer::Table) || !matches!(self, Long(_)))
     }
 
     /// Whether the call gets to see what makes the family.

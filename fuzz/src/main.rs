@@ -1,26 +1,15 @@
 //! Differential fuzzing: every call of the library against the simulator.
 
-mod buffers;
-mod calls;
-mod draw;
-mod families;
-mod memory;
-mod options;
-mod overlaps;
-mod rings;
-mod rooms;
-mod tally;
-
-use buffers::{hex, Buffer, Buffers, Overlap};
-use calls::{enter, enter_safely, simulate, Answer, Call};
-use draw::Case;
-use families::{Family, FAMILIES};
-use options::Options;
-use rooms::Rooms;
+use fuzz::buffers::{hex, Buffer, Buffers, Overlap};
+use fuzz::calls::{enter, enter_safely, simulate, Answer, Call};
+use fuzz::draw::Case;
+use fuzz::families::{Family, FAMILIES};
+use fuzz::options::{Options, USAGE};
+use fuzz::rooms::Rooms;
+use fuzz::tally::Tally;
 use simulator::random::Random;
 use std::process::ExitCode;
 use std::time::Instant;
-use tally::Tally;
 
 const CALLS_A_CASE: u64 = 20;
 
@@ -74,7 +63,7 @@ impl Fuzzer {
             let answer = self.compare(call, &mut case.buffers, overlap)?;
             self.tally.add(call, &answer, &case.buffers.answers);
             if seen {
-                self.tally.add_seen(case.family);
+                self.tally.add_seen(case.family, &answer);
             }
         }
         Ok(())
@@ -100,7 +89,7 @@ impl Fuzzer {
 fn main() -> ExitCode {
     let words: Vec<String> = std::env::args().skip(1).collect();
     let Some(options) = Options::read(&words) else {
-        eprintln!("{}", options::USAGE);
+        eprintln!("{USAGE}");
         return ExitCode::from(2);
     };
     let start = Instant::now();

@@ -26,7 +26,8 @@ const VERDICTS: [&str; 4] = ["", "exposed", "hinted", "sealed"];
 pub struct Tally {
     calls: u64,
     cases: usize,
-    families: BTreeMap<Family, u64>,
+    /// Calls that saw what makes the family, and those of them that were done.
+    families: BTreeMap<Family, (u64, u64)>,
     numbers: BTreeMap<(&'static str, u16), u64>,
     steps: BTreeMap<u8, u64>,
     verdicts: BTreeMap<(&'static str, u16), u64>,
@@ -38,8 +39,10 @@ impl Tally {
     }
 
     /// Counts a call that saw what makes the family.
-    pub fn add_seen(&mut self, family: Family) {
-        *self.families.entry(family).or_default() += 1;
+    pub fn add_seen(&mut self, family: Family, answer: &Answer) {
+        let (seen, done) = self.families.entry(family).or_default();
+        *seen += 1;
+        *done += u64::from(answer[0] == 0);
     }
 
     /// Counts a call; `answers` are the answer bytes as they are after it.
@@ -72,6 +75,9 @@ impl Tally {
         }
         if self.calls >= ENOUGH {
             missing.extend(self.missing_answers());
+            let never_done =
+                self.families.iter().filter(|(family, (_, done))| family.can_be_done() && *done == 0);
+            missing.extend(never_done.map(|(family, _)| format!("{} done", family.name())));
         }
         missing
     }
@@ -94,9 +100,9 @@ impl Tally {
     }
 
     pub fn print(&self) {
-        println!("calls that saw a family");
-        for (family, count) in &self.families {
-            println!("{}: {count}", family.name());
+        println!("family, calls that saw it, done");
+        for (family, (seen, done)) in &self.families {
+            println!("{}, {seen}, {done}", family.name());
         }
         println!("call answer count");
         for ((call, number), count) in &self.numbers {
@@ -108,5 +114,39 @@ impl Tally {
         for (number, count) in &self.steps {
             println!("step of a script {number} {count}");
         }
+    }
+}
+
+#[cfg(test)]
+mod tests {
+    use super::*;
+
+    const DONE: Answer = [0; 8];
+
+    #[test]
+    fn a_run_without_calls_misses_something() {
+        assert_eq!(Tally::default().missing(), ["any call"]);
+    }
+
+    #[test]
+    fn each_family_that_was_not_seen_is_missing() {
+        let mut tally = Tally::default();
+        (0..=FAMILIES.len()).for_each(|_| tally.add_case());
+        tally.add(Call::Validate, &DONE, &[]);
+        FAMILIES[1..].iter().for_each(|(family, _)| tally.add_seen(*family, &DONE));
+        assert_eq!(tally.missing(), [FAMILIES[0].0.name()]);
+        tally.add_seen(FAMILIES[0].0, &DONE);
+        assert_eq!(tally.missing(), Vec::<String>::new());
+    }
+
+    #[test]
+    fn a_long_run_misses_each_answer_that_never_came() {
+        let mut tally = Tally::default();
+        (0..ENOUGH).for_each(|_| tally.add(Call::Validate, &DONE, &[]));
+        let missing = tally.missing();
+        assert!(
+            missing.contains(&"validate 6".to_string()) && missing.contains(&"screen hinted".to_string())
+        );
+        assert!(!missing.contains(&"validate 0".to_string()));
     }
 }
