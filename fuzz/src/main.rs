@@ -49,12 +49,22 @@ impl Fuzzer {
         Err(format!("{call:?}, {overlap:?}\n{}{}", inputs.concat(), found.join("\n")))
     }
 
+    fn draw_call(&mut self, case: &Case, first: bool) -> Call {
+        let Some(only) = self.options.only else { return case.next_call(&mut self.random, first) };
+        loop {
+            let call = case.next_call(&mut self.random, false);
+            if call.name() == only {
+                return call;
+            }
+        }
+    }
+
     /// That many calls on a case, each on what the last one left.
     fn fuzz_case(&mut self, mut case: Case, calls: u64) -> Result<(), String> {
         self.tally.add_case();
         for place in 0..calls {
             case.disturb(&mut self.random);
-            let call = case.next_call(&mut self.random, place == 0);
+            let call = self.draw_call(&case, place == 0);
             let overlap = case.overlapping(call);
             let seen = case.family.is_seen_by(call, &case.buffers, overlap);
             if self.options.trace {

@@ -25,11 +25,6 @@ fn policy_place(random: &mut Random, bytes: &[u8]) -> Option<usize> {
     }
 }
 
-fn policy_in(random: &mut Random, outer: Buffer, buffers: &Buffers) -> Option<Overlap> {
-    let at = policy_place(random, buffers.get(outer))?;
-    Some(Overlap { inner: Buffer::Policy, outer, at, length: POLICY_LENGTH })
-}
-
 /// Records whose first 1,544 bytes have the form of a table: no odd number below 193 has an odd kind, 129 is gone.
 fn like_table(random: &mut Random) -> Itinerary {
     let count = random.between(193, 260);
@@ -71,21 +66,37 @@ fn classes(random: &mut Random, length: usize) -> Vec<u8> {
     classes
 }
 
-/// Changes the buffers to those of the family, and says how they overlap.
-pub fn overlap(random: &mut Random, family: Family, buffers: &mut Buffers) -> Option<Overlap> {
-    match family {
+/// A policy in what the family says; zeros serve as one.
+fn policy_inside(random: &mut Random, family: Family, buffers: &mut Buffers) -> Option<Overlap> {
+    let outer = match family {
         Family::PolicyInTable => {
             let policy = [LOW; POLICY_LENGTH];
             if let Ok(itinerary) = Itinerary::read(&buffers.itinerary) {
                 buffers.table = least(Law::Document, &[&itinerary], &policy).bytes.to_vec();
             }
-            policy_in(random, Buffer::Table, buffers)
+            Buffer::Table
         }
         Family::PolicyInItinerary => {
-            // Gone records behind the others: a policy of zeros.
+            // Gone records behind the others.
             let length = buffers.itinerary.len().next_multiple_of(8) + 8 * random.between(8, 12);
             buffers.itinerary.resize(length, 0);
-            policy_in(random, Buffer::Itinerary, buffers)
+            Buffer::Itinerary
+        }
+        _ => {
+            let steps = random.between(16, 40);
+            (buffers.script, buffers.answers) = (classes(random, 4 * steps), vec![random.byte(); steps]);
+            Buffer::Script
+        }
+    };
+    let at = policy_place(random, buffers.get(outer))?;
+    Some(Overlap { inner: Buffer::Policy, outer, at, length: POLICY_LENGTH })
+}
+
+/// Changes the buffers to those of the family, and says how they overlap.
+pub fn overlap(random: &mut Random, family: Family, buffers: &mut Buffers) -> Option<Overlap> {
+    match family {
+        Family::PolicyInTable | Family::PolicyInItinerary | Family::PolicyInScript => {
+            policy_inside(random, family, buffers)
         }
         Family::TableInItinerary => {
             buffers.itinerary = like_table(random).bytes();
@@ -98,11 +109,6 @@ pub fn overlap(random: &mut Random, family: Family, buffers: &mut Buffers) -> Op
             buffers.table = table;
             buffers.sheet.resize(overlap.length, 7);
             Some(overlap)
-        }
-        Family::PolicyInScript => {
-            let steps = random.between(16, 40);
-            (buffers.script, buffers.answers) = (classes(random, 4 * steps), vec![random.byte(); steps]);
-            policy_in(random, Buffer::Script, buffers)
         }
         Family::ScriptInPolicy => {
             buffers.policy = classes(random, POLICY_LENGTH);

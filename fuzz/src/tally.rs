@@ -22,6 +22,11 @@ const OWN_NUMBERS: [(&str, &[u16]); 10] = [
 ];
 const VERDICTS: [&str; 4] = ["", "exposed", "hinted", "sealed"];
 
+/// That name, if a call has it.
+pub fn call_named(name: &str) -> Option<&'static str> {
+    OWN_NUMBERS.iter().map(|(call, _)| *call).find(|call| *call == name)
+}
+
 #[derive(Default)]
 pub struct Tally {
     calls: u64,

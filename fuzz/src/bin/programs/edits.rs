@@ -19,6 +19,7 @@ pub enum Edit {
     Return,
     Returns,
     ByteOrderMark,
+    Invisible,
     ZeroInFront,
     DigitAdded,
     DigitChanged,
@@ -31,7 +32,7 @@ pub enum Edit {
 
 use Edit::*;
 
-pub const EDITS: [Edit; 23] = [
+pub const EDITS: [Edit; 24] = [
     None,
     ByteChanged,
     ByteRemoved,
@@ -47,6 +48,7 @@ pub const EDITS: [Edit; 23] = [
     Return,
     Returns,
     ByteOrderMark,
+    Invisible,
     ZeroInFront,
     DigitAdded,
     DigitChanged,
@@ -56,6 +58,9 @@ pub const EDITS: [Edit; 23] = [
     TooManyLines,
     FarTooLong,
 ];
+
+/// Characters that an editor doesn't show, or shows as a space.
+const INVISIBLE: [&str; 7] = ["\u{a0}", "\u{ad}", "\u{200b}", "\u{feff}", "\u{b}", "\u{7f}", "\0"];
 
 /// Some place whose byte is as wanted; of an empty choice none.
 fn place(random: &mut Random, text: &[u8], wanted: impl Fn(u8) -> bool) -> Option<usize> {
@@ -92,6 +97,10 @@ fn edit_bytes(random: &mut Random, edit: Edit, text: &mut Vec<u8>) -> Option<()>
             text[at] = b'\t';
         }
         ByteOrderMark => drop(text.splice(0..0, *b"\xef\xbb\xbf")),
+        Invisible => {
+            let at = random.between(0, text.len());
+            text.splice(at..at, random.pick(&INVISIBLE).bytes());
+        }
         DigitAdded => {
             text.insert(place(random, text, |byte| byte.is_ascii_digit())?, b'0' + random.below(10) as u8)
         }

@@ -70,7 +70,11 @@ fn fuzz_texts(random: &mut Random, runs: &Runs, count: usize) -> Result<Read, St
     let mut read = Read::new();
     for number in 0..count {
         let mut text = draw_text(random);
-        let first = if number < EDITS.len() { EDITS[number] } else { random.pick(&EDITS) };
+        let first = match EDITS.get(number) {
+            Some(edit) => *edit,
+            None if random.chance(20) => Edit::None,
+            None => random.pick(&EDITS),
+        };
         // Not every text has a place for every edit.
         while !apply(random, first, &mut text) {
             text = draw_text(random);

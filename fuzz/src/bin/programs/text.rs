@@ -1,4 +1,4 @@
-//! The readable form, from its description: a line is kind, label and name behind two spaces for each step of its place.
+//! The readable form, from its description: a line is kind, label and name, behind two spaces for each record above.
 
 use simulator::record::{Itinerary, Kind, Record, MOST_RECORDS};
 
