@@ -1,5 +1,6 @@
 //! Inputs among which the deepest of each call is looked for.
 
+use crate::figures::grouped;
 use crate::inputs::{self, Lent};
 use simulator::generate::policies;
 use simulator::generate::tables;
@@ -36,7 +37,8 @@ fn itineraries() -> Vec<(String, Vec<u8>)> {
             all.push((format!("deep {kind:?} that is done, {order}"), done_below(kind, reversed).bytes()));
         }
         for length in [MOST_RECORDS, MOST_RECORDS / 2] {
-            all.push((format!("ring of {length}, {order}"), ring(length, reversed)));
+            let name = format!("ring of {} ambients, {order}", grouped(length as u64));
+            all.push((name, ring(length, reversed)));
         }
     }
     for (name, lent) in inputs::for_tables() {
