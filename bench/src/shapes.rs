@@ -108,7 +108,7 @@ fn tables_for(itinerary: &[u8], policy: &[u8]) -> Vec<(&'static str, Vec<u8>)> {
 /// Steps of the ends of a chain and of what stands beside them.
 fn steps() -> Vec<(u16, u16)> {
     let most = MOST_RECORDS as u16;
-    let ends = [1, 2, most - 2, most - 1, most];
+    let ends = [1, 2, 3, most - 2, most - 1, most];
     ends.iter().flat_map(|&actor| ends.map(|partner| (actor, partner))).collect()
 }
 
@@ -131,4 +131,29 @@ pub fn all() -> Vec<Shape> {
         }
     }
     shapes
+}
+
+#[cfg(test)]
+mod tests {
+    use super::*;
+
+    /// The kinds of step that some input lets be done at the end of a chain in that order.
+    fn kinds_done(order: &str) -> Vec<u8> {
+        let mut kinds = Vec::new();
+        for Shape { itinerary, mut lent, .. } in all() {
+            let actor = usize::from(lent.number).checked_sub(1);
+            let kind = actor.map(|place| lent.itinerary[8 * place]);
+            let done = birnsket::step(&mut lent.itinerary, lent.number, lent.partner).is_ok();
+            kinds.extend(kind.filter(|_| done && itinerary.ends_with(order)));
+        }
+        kinds.sort_unstable();
+        kinds.dedup();
+        kinds
+    }
+
+    #[test]
+    fn each_kind_of_step_is_done_in_both_orders() {
+        assert_eq!(kinds_done("in file order"), [2, 3, 4]);
+        assert_eq!(kinds_done("reversed"), [2, 3, 4]);
+    }
 }

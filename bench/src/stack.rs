@@ -88,6 +88,7 @@ pub fn print() -> bool {
     }
     let kept = most > OWN && most <= PROMISED;
     let word = if kept { "within" } else { "NOT within" };
-    println!("{} inputs tried; {word} the {} bytes of the header.", shapes.len(), grouped(PROMISED as u64));
+    let (tried, promised) = (grouped(shapes.len() as u64), grouped(PROMISED as u64));
+    println!("{tried} inputs tried; {word} the {promised} bytes of the header.");
     kept
 }
