@@ -26,11 +26,23 @@
  *    of the call, and nobody else reads one passed without `const`; nor the
  *    number at `label`.
  *  - The stack has room. docs/BENCHMARKS.md has the depth measured; 128 KiB is
- *    enough for every call.
+ *    enough for every call measured.
  *
  * Apart from that any bytes of any length are fine: what is not as it should
- * be is refused. A call keeps no pointer, has no state, takes no memory from a
- * heap, always returns, and may be made from several threads at once.
+ * be is refused.
+ *
+ * WHAT IS PROVED, AND WHAT IS NOT
+ *
+ * Proved, for callers that keep these rules: what each call returns and what
+ * every buffer holds afterwards, as said with the call, for good and refused
+ * inputs alike; that no byte outside the buffers is read or written; that every
+ * call returns.
+ * Argued from the source: a call keeps no pointer, has no state and takes no
+ * memory from a heap, since the language has none of these; so it may be made
+ * from several threads at once, on buffers that no other thread writes.
+ * Measured: the stack. Tried by fuzzing with guard pages and under valgrind:
+ * that the compiled calls touch no byte outside the buffers.
+ * Not claimed: anything about time.
  *
  * BUFFERS
  *
@@ -283,7 +295,8 @@ HubResult hub_verdict(const uint8_t *itinerary, size_t itinerary_length,
  * Done: the row is the v1 bytes from table + v0: 16 bytes from 16 * label; 0
  * and 0, the empty part, for a label over 63 or a table that is not 1,544
  * bytes.
- * Never refuses, and reads no byte of the table.
+ * Never refuses. (It looks at the length alone; that no byte is read is seen in
+ * the source.)
  */
 HubResult hub_row(const uint8_t *table, size_t table_length, uint8_t label);
 

@@ -21,7 +21,7 @@ pub enum Law {
     OpenAmbientsOnly,
     /// Only active capabilities have rules.
     OnlyActiveCapabilities,
-    /// A partner that is no ambient is answered by 13, an unfit ambient by 12.
+    /// A partner that is no ambient is answered by 11, an unfit ambient by 12.
     PartnerNotAmbientDiffers,
 }
 

@@ -17,7 +17,7 @@ pub fn answer(law: Law, itinerary: &Itinerary, actor: u16, partner: u16) -> u8 {
     }
     match itinerary.is_ambient(partner) {
         true if fits(itinerary, &c, partner) => 0,
-        false if law == Law::PartnerNotAmbientDiffers => 13,
+        false if law == Law::PartnerNotAmbientDiffers => 11,
         _ => 12,
     }
 }
