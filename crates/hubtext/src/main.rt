@@ -3,7 +3,7 @@
 use libc::STDERR_FILENO;
 use textform::TextRead;
 
-// Room for the longest text of 1,024 lines, and one byte more: a longer text has a line at fault within it.
+// Room for the longest text of 1,024 records, and one byte more, by which the reader tells that a text is longer.
 fn room() -> [u8; 1061889] {
     [0u8; 1061889]
 }
@@ -26,7 +26,21 @@ fn show_cause(cause: u8) {
         7 => error(b"no space and number for a name after the label\n"),
         8 => error(b"name over 63\n"),
         9 => error(b"something after the name\n"),
-        _ => error(b"no end of line after the name\n"),
+        10 => error(b"no end of line after the name\n"),
+        _ => show_other_cause(cause),
+    }
+}
+
+// The causes that go by what stands in a line, and not by its grammar alone.
+fn show_other_cause(cause: u8) {
+    match cause {
+        11 => error(b"the first line is indented\n"),
+        12 => error(b"a carriage return (byte 13): a line ends with a line feed alone\n"),
+        13 => error(b"a tab (byte 9): only spaces indent a line and part its fields\n"),
+        14 => error(b"a byte order mark (bytes 239 187 191)\n"),
+        15 => error(b"a number with a leading zero\n"),
+        16 => error(b"a number with more than three digits\n"),
+        _ => error(b"the text is longer than any text of 1024 records\n"),
     }
 }
 

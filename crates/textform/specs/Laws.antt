@@ -9,4 +9,5 @@ pub mod Placing
 pub mod Putting
 pub mod Walking
 pub mod Listing
+pub mod Longest
 pub mod Examples

@@ -16,7 +16,7 @@ use Rattle.textform.specs.declared.Decimal.{Decimal}
 use Rattle.textform.specs.declared.TextRead.{TextRead}
 use Rattle.textform.specs.declared.TextRead.the-variants.{Fault, Records}
 
--- the causes of a fault, in the order in which a line is looked at:
+-- the causes of a fault; the first ten are in the order in which a line is looked at:
 -- more records than 1,024 or than the itinerary's bytes hold
 abbrev pub tooMany : ℕ
 tooMany = 1
@@ -25,7 +25,7 @@ tooMany = 1
 abbrev pub oddIndent : ℕ
 oddIndent = 2
 
--- indented by more than one step below the line before, or the first line is indented
+-- indented by more than one step below the line before
 abbrev pub tooDeep : ℕ
 tooDeep = 3
 
@@ -57,16 +57,68 @@ afterName = 9
 abbrev pub noEnd : ℕ
 noEnd = 10
 
+-- the first line is indented
+abbrev pub firstIndented : ℕ
+firstIndented = 11
+
+-- a carriage return stands there
+abbrev pub carriageReturn : ℕ
+carriageReturn = 12
+
+-- a tab stands there
+abbrev pub tab : ℕ
+tab = 13
+
+-- a byte order mark stands there
+abbrev pub byteOrderMark : ℕ
+byteOrderMark = 14
+
+-- a number has a leading zero
+abbrev pub leadingZero : ℕ
+leadingZero = 15
+
+-- a number has more than three digits
+abbrev pub tooManyDigits : ℕ
+tooManyDigits = 16
+
+-- the text is longer than any text of 1,024 records
+abbrev pub tooLong : ℕ
+tooLong = 17
+
+-- how many bytes at the start pass a test
+unfoldable pub leading : (ℕ → Bool) → List ℕ → ℕ
+leading test [] = 0
+leading test (c ∷ s) = elim (test c) [ true ↦ suc (leading test s) | false ↦ 0 ]
+
 -- how many spaces the bytes start with
-unfoldable pub spaces : List ℕ → ℕ
-spaces [] = 0
-spaces (c ∷ s) = elim (eqb c 32) [ true ↦ suc (spaces s) | false ↦ 0 ]
+abbrev pub spaces : List ℕ → ℕ
+spaces s = leading (λ c. eqb c 32) s
+
+-- a byte shows as a character: neither a space nor a control nor a part of a longer code
+unfoldable pub visible : ℕ → Bool
+visible c = leb 33 c && leb c 126
+
+-- how many visible bytes the bytes start with
+abbrev pub shown : List ℕ → ℕ
+shown s = leading visible s
 
 -- whether the bytes s start with w
 unfoldable pub starts : List ℕ → List ℕ → Bool
 starts [] s = true
 starts (c ∷ w) [] = false
 starts (c ∷ w) (x ∷ s) = elim (eqb x c) [ true ↦ starts w s | false ↦ false ]
+
+-- the byte order mark
+unfoldable pub markBytes : List ℕ
+markBytes = 239 ∷ 187 ∷ 191 ∷ []
+
+-- the cause of a fault where s stands: the invisible bytes that s starts with, and otherwise the cause given
+unfoldable pub causeAt : ℕ → List ℕ → ℕ
+causeAt cause s =
+    elim (eqb (byte s 0) 13) [
+      | true ↦ carriageReturn
+      | false ↦ elim (eqb (byte s 0) 9) [ true ↦ tab | false ↦ elim (starts markBytes s) [ true ↦ byteOrderMark | false ↦ cause ] ]
+    ]
 
 -- a byte is one of 0 to 9
 unfoldable pub digit : ℕ → Bool
@@ -93,6 +145,18 @@ numeralOf a b c =
 unfoldable pub numeral : List ℕ → Decimal
 numeral s = numeralOf (byte s 0) (byte s 1) (byte s 2)
 
+-- the cause of digits after a number of w digits: one that stops before them is 0
+unfoldable pub digitsCause : ℕ → ℕ
+digitsCause w = elim (eqb w 1) [ true ↦ leadingZero | false ↦ tooManyDigits ]
+
+-- what is wrong with the number n that the bytes s start with: it is missing, or digits stand after it; 0 where nothing is
+unfoldable pub numberCause : ℕ → Decimal → List ℕ → ℕ
+numberCause missing n s =
+    elim (leb 1 (n .width)) [
+      | false ↦ causeAt missing s
+      | true ↦ elim (digit (byte s (n .width))) [ true ↦ digitsCause (n .width) | false ↦ 0 ]
+    ]
+
 -- what is next where the test is true, and the fault otherwise
 unfoldable pub demand : Bool → ℕ → LineRead → LineRead
 demand true cause next = next
@@ -101,14 +165,15 @@ demand false cause next = Bad cause
 -- the end of line l
 unfoldable pub ended : Line → List ℕ → LineRead
 ended l [] = Bad noEnd
-ended l (c ∷ s) = demand (eqb c 10) afterName (Good l (length s))
+ended l (c ∷ s) = demand (eqb c 10) (causeAt afterName (c ∷ s)) (Good l (length s))
 
 -- the name, after the depth, kind and label
 unfoldable pub named : ℕ → ℕ → ℕ → List ℕ → LineRead
 named d k label s =
     let n = numeral (drop 1 s) in
-    demand (eqb (byte s 0) 32) noName
-    (demand (leb 1 (n .width)) noName
+    let wrong = numberCause noName n (drop 1 s) in
+    demand (eqb (byte s 0) 32) (causeAt noName s)
+    (demand (eqb wrong 0) wrong
     (demand (leb (n .value) 63) wrongName
     (ended (record { depth = d; kind = k; label = label; name = n .value }) (drop (n .width) (drop 1 s)))))
 
@@ -116,7 +181,12 @@ named d k label s =
 unfoldable pub labelled : ℕ → ℕ → List ℕ → LineRead
 labelled d k s =
     let n = numeral s in
-    demand (leb 1 (n .width)) noLabel (demand (labelIn (eqb k 1) (n .value)) wrongLabel (named d k (n .value) (drop (n .width) s)))
+    let wrong = numberCause noLabel n s in
+    demand (eqb wrong 0) wrong (demand (labelIn (eqb k 1) (n .value)) wrongLabel (named d k (n .value) (drop (n .width) s)))
+
+-- no kind's word: what is wrong is told where the visible bytes end
+unfoldable pub unworded : List ℕ → LineRead
+unworded s = Bad (causeAt unknownKind (drop (shown s) s))
 
 -- the kind, after the depth
 unfoldable pub worded : ℕ → List ℕ → LineRead
@@ -127,16 +197,22 @@ worded d s =
         | true ↦ labelled d 2 (drop 3 s)
         | false ↦ elim (starts outWord s) [
           | true ↦ labelled d 3 (drop 4 s)
-          | false ↦ elim (starts openWord s) [ true ↦ labelled d 4 (drop 5 s) | false ↦ Bad unknownKind ]
+          | false ↦ elim (starts openWord s) [ true ↦ labelled d 4 (drop 5 s) | false ↦ unworded s ]
         ]
       ]
     ]
+
+-- the cause of a wrong indentation before s: only the first line may not be indented at all
+unfoldable pub indentCause : ℕ → ℕ → List ℕ → ℕ
+indentCause cause deepest s = causeAt (elim (eqb deepest 0) [ true ↦ firstIndented | false ↦ cause ]) s
 
 -- the line that the bytes start with, where it may be indented by at most deepest steps
 unfoldable pub lineRead : ℕ → List ℕ → LineRead
 lineRead deepest s =
     let n = spaces s in
-    demand (eqb (n % 2) 0) oddIndent (demand (leb (n / 2) deepest) tooDeep (worded (n / 2) (drop n s)))
+    demand (eqb (n % 2) 0) (indentCause oddIndent deepest (drop n s))
+    (demand (leb (n / 2) deepest) (indentCause tooDeep deepest (drop n s))
+    (worded (n / 2) (drop n s)))
 
 -- the lines read before the end or the first fault, and the fault's cause
 pub record Scan : Type 0 where
@@ -197,9 +273,23 @@ readBy n (some cause) = Fault (suc n) cause
 unfoldable pub scanAnswer : Scan → TextRead
 scanAnswer x = readBy (length (x .lines)) (x .fault)
 
+-- how many records were read into it, or the lowest line at fault
+unfoldable pub linesAnswer : List ℕ → List ℕ → TextRead
+linesAnswer text it = scanAnswer (scan (roomIn it) text)
+
+-- the length of the longest text of 1,024 records: a chain of ambients whose labels and names have two digits
+abbrev pub longest : ℕ
+longest = 1061888
+
+-- a fault is told as the text's length where that is too long, at its line
+unfoldable pub lengthTold : Bool → TextRead → TextRead
+lengthTold true got = got
+lengthTold false (Records n) = Records n
+lengthTold false (Fault line cause) = Fault line tooLong
+
 -- reader: how many records it wrote, or the lowest line at fault
 unfoldable pub readAnswer : List ℕ → List ℕ → TextRead
-readAnswer text it = scanAnswer (scan (roomIn it) text)
+readAnswer text it = lengthTold (leb (length text) longest) (linesAnswer text it)
 
 -- by whether there is a fault
 unfoldable pub readInto : Option ℕ → List ℕ → List ℕ → List ℕ

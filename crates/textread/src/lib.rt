@@ -6,12 +6,12 @@ use textform::LineRead;
 use textform::TextRead;
 ghost use mathlib.Core.Path.{_≡_};
 ghost use Prim.Native.Nat.{_+_, _*_, _/_, _≤_, min};
-ghost use lib.Dec.{eqb};
+ghost use lib.Dec.{eqb, leb};
 ghost use lib.ListN.{getD, length, set};
 ghost use Rattle.reading.specs.Written.{withRecord};
 ghost use Rattle.model.specs.Records.{byte};
 ghost use Rattle.model.specs.Validity.{labelIn};
-ghost use Rattle.textform.specs.Reading.{causeOf, digit, ended, labelled, lineRead, named, noneAbove, numeral, numeralOf, readAfter, readAnswer, recordOf, scan, scanAnswer, spaces, starts, worded};
+ghost use Rattle.textform.specs.Reading.{causeAt, causeOf, digit, digitsCause, ended, indentCause, labelled, lengthTold, lineRead, linesAnswer, longest, named, noneAbove, numberCause, numeral, numeralOf, readAfter, readAnswer, recordOf, scan, scanAnswer, shown, spaces, starts, unworded, visible, worded};
 ghost use Rattle.textform.specs.Inner.{Placeable, scanned};
 
 // How many spaces the bytes start with.
@@ -21,6 +21,27 @@ fn spaces(s: &[u8]) -> usize
     let mut i: usize = 0;
     while i < s.len() {
         if s[i] != 32 {
+            return i;
+        }
+        i += 1;
+    }
+    i
+}
+
+// Whether a byte shows as a character.
+fn visible(c: u8) -> bool
+    ensures { λ r. ⌜ r ≡ visible c ⌝ }
+{
+    (33 <= c) & (c <= 126)
+}
+
+// How many visible bytes the bytes start with.
+fn shown(s: &[u8]) -> usize
+    ensures { λ r. ⌜ r ≡ shown (now (s .entry)) ⌝ }
+{
+    let mut i: usize = 0;
+    while i < s.len() {
+        if !visible(s[i]) {
             return i;
         }
         i += 1;
@@ -50,6 +71,23 @@ fn byte_at(s: &[u8], j: usize) -> u8
     ensures { λ r. ⌜ r ≡ byte (now (s .entry)) j ⌝ }
 {
     if j < s.len() { s[j] } else { 0 }
+}
+
+// The cause of a fault where s stands: invisible bytes that s starts with, and otherwise the one given.
+fn cause_at(cause: u8, s: &[u8]) -> u8
+    ensures { λ r. ⌜ r ≡ causeAt cause (now (s .entry)) ⌝ }
+{
+    let c = byte_at(s, 0);
+    if c == 13 {
+        return 12;
+    }
+    if c == 9 {
+        return 13;
+    }
+    if starts(b"\xef\xbb\xbf", s) {
+        return 14;
+    }
+    cause
 }
 
 // Whether a byte is one of 0 to 9.
@@ -94,6 +132,27 @@ fn numeral(s: &[u8]) -> Decimal
     numeral_of(byte_at(s, 0), byte_at(s, 1), byte_at(s, 2))
 }
 
+// The cause of digits after a number of so many.
+fn digits_cause(width: usize) -> u8
+    ensures { λ r. ⌜ r ≡ digitsCause width ⌝ }
+{
+    if width == 1 { 15 } else { 16 }
+}
+
+// What is wrong with the number that the bytes start with, 0 where nothing is.
+fn number_cause(missing: u8, n: Decimal, s: &[u8]) -> u8
+    ensures { λ r. ⌜ r ≡ numberCause missing n (now (s .entry)) ⌝ }
+{
+    let width = n.width;
+    if width < 1 {
+        return cause_at(missing, s);
+    }
+    if digit(byte_at(s, width)) {
+        return digits_cause(width);
+    }
+    0
+}
+
 // The end of a line.
 fn ended(line: Line, s: &[u8]) -> LineRead
     ensures { λ r. ⌜ r ≡ ended line (now (s .entry)) ⌝ }
@@ -102,7 +161,7 @@ fn ended(line: Line, s: &[u8]) -> LineRead
         return LineRead::Bad(10);
     }
     if s[0] != 10 {
-        return LineRead::Bad(9);
+        return LineRead::Bad(cause_at(9, s));
     }
     LineRead::Good(line, s.len() - 1)
 }
@@ -112,14 +171,15 @@ fn named(depth: usize, kind: u8, label: u8, s: &[u8]) -> LineRead
     ensures { λ r. ⌜ r ≡ named depth kind label (now (s .entry)) ⌝ }
 {
     if byte_at(s, 0) != 32 {
-        return LineRead::Bad(7);
+        return LineRead::Bad(cause_at(7, s));
     }
     let rest = &s[1..];
     let name = numeral(rest);
-    let width = name.width;
-    if width < 1 {
-        return LineRead::Bad(7);
+    let cause = number_cause(7, name, rest);
+    if cause != 0 {
+        return LineRead::Bad(cause);
     }
+    let width = name.width;
     if 63 < name.value {
         return LineRead::Bad(8);
     }
@@ -149,14 +209,23 @@ fn labelled(depth: usize, kind: u8, s: &[u8]) -> LineRead
     ensures { λ r. ⌜ r ≡ labelled depth kind (now (s .entry)) ⌝ }
 {
     let label = numeral(s);
-    let width = label.width;
-    if width < 1 {
-        return LineRead::Bad(5);
+    let cause = number_cause(5, label, s);
+    if cause != 0 {
+        return LineRead::Bad(cause);
     }
+    let width = label.width;
     if !label_in(kind, label.value) {
         return LineRead::Bad(6);
     }
     named(depth, kind, label.value as u8, &s[width..])
+}
+
+// No kind's word: the cause by where the visible bytes end.
+fn unworded(s: &[u8]) -> LineRead
+    ensures { λ r. ⌜ r ≡ unworded (now (s .entry)) ⌝ }
+{
+    let n = shown(s);
+    LineRead::Bad(cause_at(4, &s[n..]))
 }
 
 // The kind and what follows it.
@@ -175,7 +244,17 @@ fn worded(depth: usize, s: &[u8]) -> LineRead
     if starts(b"open ", s) {
         return labelled(depth, 4, &s[5..]);
     }
-    LineRead::Bad(4)
+    unworded(s)
+}
+
+// The cause of a wrong indentation before s.
+fn indent_cause(cause: u8, deepest: usize, s: &[u8]) -> u8
+    ensures { λ r. ⌜ r ≡ indentCause cause deepest (now (s .entry)) ⌝ }
+{
+    if deepest == 0 {
+        return cause_at(11, s);
+    }
+    cause_at(cause, s)
 }
 
 // The line that the bytes start with.
@@ -183,14 +262,15 @@ fn read_line(s: &[u8], deepest: usize) -> LineRead
     ensures { λ r. ⌜ r ≡ lineRead deepest (now (s .entry)) ⌝ }
 {
     let n = spaces(s);
+    let rest = &s[n..];
     if n % 2 != 0 {
-        return LineRead::Bad(2);
+        return LineRead::Bad(indent_cause(2, deepest, rest));
     }
     let depth = n / 2;
     if deepest < depth {
-        return LineRead::Bad(3);
+        return LineRead::Bad(indent_cause(3, deepest, rest));
     }
-    worded(depth, &s[n..])
+    worded(depth, rest)
 }
 
 // The cause of a line's fault, 0 where it has none.
@@ -265,7 +345,7 @@ fn room_in(len: usize) -> u16
 // Reads into scratch first, so that a fault leaves the itinerary as it was; inner.
 fn read_by(text: &[u8], it: &mut [u8], scratch: &mut [u8], above: &mut [u16]) -> TextRead
     requires { ⌜ (length (now scratch) ≡ 8192) × (now above ≡ noneAbove) ⌝ }
-    ensures { λ r. ⌜ (r ≡ readAnswer (now (text .entry)) (now (it .entry)))
+    ensures { λ r. ⌜ (r ≡ linesAnswer (now (text .entry)) (now (it .entry)))
         × (now (it .exit) ≡ readAfter (now (text .entry)) (now (it .entry))) ⌝ }
 {
     let room = room_in(it.len());
@@ -277,6 +357,19 @@ fn read_by(text: &[u8], it: &mut [u8], scratch: &mut [u8], above: &mut [u16]) ->
     got
 }
 
+// The answer, where a text longer than the longest has that for its fault.
+fn length_told(len: usize, answer: TextRead) -> TextRead
+    ensures { λ r. ⌜ r ≡ lengthTold (leb len longest) answer ⌝ }
+{
+    if len <= 1061888 {
+        return answer;
+    }
+    let TextRead::Fault { line, cause: _ } = answer else {
+        return answer;
+    };
+    TextRead::Fault { line, cause: 17 }
+}
+
 // Reads the text form: writes the records of its lines to the start of the itinerary's bytes, or leaves these as they
 // were and names the lowest line at fault, counted from 1, and its cause.
 pub fn read_text(text: &[u8], it: &mut [u8]) -> TextRead
@@ -285,5 +378,6 @@ pub fn read_text(text: &[u8], it: &mut [u8]) -> TextRead
 {
     let mut scratch = [0u8; 8192];
     let mut above = [0u16; 1025];
-    read_by(text, it, &mut scratch, &mut above)
+    let got = read_by(text, it, &mut scratch, &mut above);
+    length_told(text.len(), got)
 }

@@ -15,11 +15,11 @@ use Rattle.model.specs.Laws.WellFormed.{and-right}
 use Rattle.model.specs.Listing.{digitsIn}
 use Rattle.model.specs.Records.{byte, encode, records}
 use Rattle.model.specs.Validity.{labelIn}
-use Rattle.textform.specs.Laws.Lines.{demand-good, digits-1, digits-2, digits-3, ended-good, line-parts, named-good, scan-bad, scan-good, scan-nested, tailBytes, worded-by, worded-good}
+use Rattle.textform.specs.Laws.Lines.{demand-good, digits-1, digits-2, digits-3, ended-good, line-parts, named-good, number-some, scan-bad, scan-good, scan-nested, tailBytes, worded-by, worded-good}
 use Rattle.textform.specs.Laws.Nesting.{walk-placed}
 use Rattle.textform.specs.Laws.Scanning.{digit-inside, digit-low, numeral-cases}
 use Rattle.textform.specs.Lines.{kindWord, lineBytes, render}
-use Rattle.textform.specs.Reading.{before, digit, ended, labelled, lineRead, named, numeral, placed, scan, scanFrom, spaces, starts, worded}
+use Rattle.textform.specs.Reading.{before, digit, ended, labelled, leading, lineRead, named, numberCause, numeral, placed, scan, scanFrom, spaces, starts, worded}
 use Rattle.textform.specs.Writing.{textOf}
 use Rattle.textform.specs.declared.Line.{Line}
 use Rattle.textform.specs.declared.LineRead.{LineRead}
@@ -27,13 +27,13 @@ use Rattle.textform.specs.declared.LineRead.the-variants.{Bad, Good}
 
 -- what is read is what stands there
 spaces-exact : (s : List ℕ) → replicate (spaces s) 32 ++ drop (spaces s) s ≡ s
-unfolding spaces
+unfolding leading
 spaces-exact [] = refl
 spaces-exact (c ∷ s) = go (eqb c 32) refl (spaces-exact s)
   where
     go : (b : Bool) → eqb c 32 ≡ b → replicate (spaces s) 32 ++ drop (spaces s) s ≡ s → replicate (spaces (c ∷ s)) 32 ++ drop (spaces (c ∷ s)) (c ∷ s) ≡ c ∷ s
-    go true e ih = rw (e, spaces) (ap (λ x. 32 ∷ x) ih ∙ ap (λ x. x ∷ s) (sym (eqb-true c 32 e)))
-    go false e ih = rw (e, spaces)
+    go true e ih = rw (e, leading) (ap (λ x. 32 ∷ x) ih ∙ ap (λ x. x ∷ s) (sym (eqb-true c 32 e)))
+    go false e ih = rw (e, leading)
 
 starts-exact : (w s : List ℕ) → starts w s ≡ true → w ++ drop (length w) s ≡ s
 unfolding starts
@@ -97,7 +97,7 @@ ended-exact : (m : Line) (s : List ℕ) {l : Line} {left : ℕ} → ended m s �
 unfolding ended
 ended-exact m [] e = let u : _≡_ {A = ℕ} 0 1 = cc in absurd (omega arith)
 ended-exact m (c ∷ s) {l} {left} e =
-    let g = demand-good (eqb c 10) 9 (Good m (length s)) e in
+    let g = demand-good (eqb c 10) _ (Good m (length s)) e in
     let q = g .1 in
     let v : length s ≡ left = cc in
     let w : suc (length s) - left ≡ 1 = omega arith in
@@ -107,9 +107,9 @@ named-exact : (d k label : ℕ) (s : List ℕ) {l : Line} {left : ℕ} → named
 unfolding named
 named-exact d k label s {l} {left} e =
     let n = numeral (drop 1 s) in
-    let z = demand-good (eqb (byte s 0) 32) 7 _ e in
+    let z = demand-good (eqb (byte s 0) 32) _ _ e in
     let a = z .1 in
-    let y = demand-good (leb 1 (n .width)) 7 _ a in
+    let y = demand-good (eqb (numberCause 7 n (drop 1 s)) 0) _ _ a in
     let b = y .1 in
     let c = demand-good (leb (n .value) 63) 8 _ b in
     let g = ended-good _ _ (c .1) in
@@ -119,7 +119,7 @@ named-exact d k label s {l} {left} e =
     ap (λ x. 32 ∷ (digitsIn 5 x ++ (10 ∷ drop (length s - left) s))) w
     ∙ ap (λ x. 32 ∷ (digitsIn 5 (n .value) ++ (10 ∷ x))) (sym q)
     ∙ ap (λ x. 32 ∷ (digitsIn 5 (n .value) ++ x)) (ended-exact _ (drop (n .width) (drop 1 s)) (c .1))
-    ∙ ap (λ x. 32 ∷ x) (numeral-exact (drop 1 s) (leb-true 1 (n .width) (y .0)))
+    ∙ ap (λ x. 32 ∷ x) (numeral-exact (drop 1 s) (number-some 7 n (drop 1 s) (omega arith) (eqb-true _ 0 (y .0))))
     ∙ ap (λ x. x ∷ drop 1 s) (sym (eqb-true (byte s 0) 32 (z .0)))
     ∙ first-1 s (omega (arith, p, length-drop 1 s))
 
@@ -134,7 +134,7 @@ labelled-exact : (d k : ℕ) (s : List ℕ) {l : Line} {left : ℕ} → labelled
 unfolding labelled
 labelled-exact d k s {l} {left} e =
     let n = numeral s in
-    let z = demand-good (leb 1 (n .width)) 5 _ e in
+    let z = demand-good (eqb (numberCause 5 n s) 0) _ _ e in
     let a = z .1 in
     let b = demand-good (labelIn (eqb k 1) (n .value)) 6 _ a in
     let g = named-good d k (n .value) _ (b .1) in
@@ -146,7 +146,7 @@ labelled-exact d k s {l} {left} e =
           ap (λ x. digitsIn 5 x ++ (32 ∷ (digitsIn 5 (l .name) ++ (10 ∷ drop (length s - left) s)))) (g .2)
           ∙ ap (λ x. digitsIn 5 (n .value) ++ (32 ∷ (digitsIn 5 (l .name) ++ (10 ∷ x)))) (sym (left-same (n .width) s left (g .4)))
           ∙ ap (λ x. digitsIn 5 (n .value) ++ x) (named-exact d k (n .value) (drop (n .width) s) (b .1))
-          ∙ numeral-exact s (leb-true 1 (n .width) (z .0));
+          ∙ numeral-exact s (number-some 5 n s (omega arith) (eqb-true _ 0 (z .0)));
     }
 
 -- the same from the kind's word on
@@ -168,9 +168,9 @@ line-exact : (d : ℕ) (s : List ℕ) {l : Line} {left : ℕ} → lineRead d s �
 unfolding lineRead
 line-exact d s {l} {left} e =
     let n = spaces s in
-    let z = demand-good (eqb (n % 2) 0) 2 _ e in
+    let z = demand-good (eqb (n % 2) 0) _ _ e in
     let a = z .1 in
-    let b = demand-good (leb (n / 2) d) 3 _ a in
+    let b = demand-good (leb (n / 2) d) _ _ a in
     let g = worded-exact (n / 2) (drop n s) (b .1) in
     let f = worded-good (n / 2) (drop n s) (b .1) .fewer in
     let h : 2 * l .depth ≡ n = omega (arith, g .0, eqb-true (n % 2) 0 (z .0)) in
@@ -181,7 +181,7 @@ line-exact d s {l} {left} e =
     ∙ spaces-exact s
 
 -- a text that is read without a fault is the text of its lines
-scan-exact : (room d : ℕ) (s : List ℕ) → scanFrom room d s .fault ≡ none → render (scanFrom room d s .lines) ≡ s
+pub scan-exact : (room d : ℕ) (s : List ℕ) → scanFrom room d s .fault ≡ none → render (scanFrom room d s .lines) ≡ s
 unfolding scanFrom before render
 scan-exact zero d [] e = refl
 scan-exact zero d (c ∷ s) e = let u : _≡_ {A = ℕ} 0 1 = cc in absurd (omega arith)

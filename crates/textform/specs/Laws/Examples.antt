@@ -10,7 +10,7 @@ use Rattle.model.specs.Records.{at, encode, isAmbient}
 use Rattle.model.specs.Validity.{labelIn}
 use Rattle.model.specs.declared.Rec.{Rec}
 use Rattle.textform.specs.Lines.{ambientWord, entry, hiddenWord, inWord, indent, kindWord, lineBytes, openWord, outWord, render}
-use Rattle.textform.specs.Reading.{before, bytesOf, demand, digit, ended, labelled, lineRead, named, noneAbove, numeral, numeralOf, placed, placedFrom, recordOf, scan, scanFrom, spaces, starts, worded}
+use Rattle.textform.specs.Reading.{before, bytesOf, causeAt, demand, digit, ended, labelled, leading, lineRead, numberCause, named, noneAbove, numeral, numeralOf, placed, placedFrom, recordOf, scan, scanFrom, starts, worded}
 use Rattle.textform.specs.Writing.{childAfter, childOr, isChild, lineAt, linesOf, listLine, listOf, mark, nextFrom, orZero, textOf, walk, walkFrom}
 
 -- records (1,1,0,parent 0), (1,2,1,parent 1), (3,64,0,parent 2)
@@ -42,7 +42,7 @@ unfolding textOf exampleB textB render lineBytes entry indent kindWord ambientWo
 writes-b = refl
 
 pub reads-b : bytesOf textB ≡ encode exampleB
-unfolding bytesOf exampleB textB scan scanFrom before lineRead worded labelled named ended demand numeral numeralOf digit starts spaces ambientWord inWord outWord openWord labelIn placed placedFrom recordOf noneAbove encode
+unfolding bytesOf exampleB textB scan scanFrom before lineRead worded labelled named ended demand numeral numeralOf digit starts leading causeAt numberCause ambientWord inWord outWord openWord labelIn placed placedFrom recordOf noneAbove encode
 reads-b = refl
 
 -- where label 2 alone is suspect

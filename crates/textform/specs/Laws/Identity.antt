@@ -4,7 +4,7 @@ use borrow.Author.Tests.{eqb-false, le-leb, leb-true, not-true}
 use lib.Dec.{leb}
 use lib.ListN.{getD, length, length-map, set}
 use lib.Seq.{getD-set-other, getD-set-same, set-out}
-use mathlib.Core.Bool.{true}
+use mathlib.Core.Bool.{Bool, false, true}
 use mathlib.Core.List.{List, [], _∷_, map}
 use mathlib.Core.Logic.{_≢_}
 use mathlib.Core.Option.{Option, none, some}
@@ -25,7 +25,7 @@ use Rattle.itinerary.specs.Laws.{valid-few}
 use Rattle.textform.specs.Laws.Lines.{scan-nested, scan-render}
 use Rattle.textform.specs.Laws.Nesting.{Nested, Right, cons, length-placed, nil, none-zero, walk-next, walk-placed}
 use Rattle.textform.specs.Lines.{over, render}
-use Rattle.textform.specs.Reading.{bytesOf, noneAbove, placed, placedFrom, readAfter, readAnswer, readBy, readInto, recordOf, roomIn, scan, scanAnswer}
+use Rattle.textform.specs.Reading.{bytesOf, lengthTold, linesAnswer, noneAbove, placed, placedFrom, readAfter, readAnswer, readBy, readInto, recordOf, roomIn, scan, scanAnswer}
 use Rattle.textform.specs.Writing.{childAfter, childOr, fits, isChild, lineAt, nextFrom, orZero, overIf, textOf, told, toldAfter, walk, walkFrom, writeAfter, writeAnswer}
 use Rattle.textform.specs.declared.Line.{Line}
 use Rattle.textform.specs.declared.TextRead.the-variants.{Records}
@@ -223,14 +223,20 @@ written-count : (s : List ℕ) → validity s ≡ pass → length (map (lineAt (
 unfolding placed
 written-count s v = sym (ap count (accepted-lines s v) ∙ count-encode _ ∙ length-placed 1 noneAbove _)
 
+-- a text's length is no fault
+records-told : (b : Bool) (n : ℕ) → lengthTold b (Records n) ≡ Records n
+unfolding lengthTold
+records-told true n = refl
+records-told false n = refl
+
 -- the same of the calls: what the writer wrote of a valid itinerary the reader takes, and the writer gives back
 pub calls-identity : (s it t : List ℕ) → validity s ≡ pass → length it ≡ 8192 → length (textOf (records s)) ≤ length t →
     (readAnswer (textOf (records s)) it ≡ Records (count (bytesOf (textOf (records s))))) × (readAfter (textOf (records s)) it ≡ over (bytesOf (textOf (records s))) it)
     × (writeAnswer (bytesOf (textOf (records s))) t ≡ Length (length (textOf (records s)))) × (writeAfter (bytesOf (textOf (records s))) t ≡ over (textOf (records s)) t)
-unfolding readAnswer readAfter readBy readInto scanAnswer roomIn writeAnswer writeAfter told toldAfter content fits overIf
+unfolding readAnswer linesAnswer readAfter readBy readInto scanAnswer roomIn writeAnswer writeAfter told toldAfter content fits overIf
 calls-identity s it t v l h =
     let a = accepted s v in
     let w : validity (bytesOf (textOf (records s))) ≡ pass = bytes-valid (textOf (records s)) in
     let i = identity s v in
     let r = le-leb (length (textOf (records s))) (length t) h in
-    (rw l (rw a (ap Records (written-count s v))), rw l (rw a (ap (λ x. over x it) (sym (accepted-lines s v)))), rw w (rw (i, r)), rw w (rw (i, r)))
+    (rw l (rw a (records-told _ _ ∙ ap Records (written-count s v))), rw l (rw a (ap (λ x. over x it) (sym (accepted-lines s v)))), rw w (rw (i, r)), rw w (rw (i, r)))

@@ -3,7 +3,7 @@ use Prim.Native.Nat.{_%_, _*_, _+_, _-_, _/_, _<_, _≤_, suc, zero, ℕ}
 use borrow.Author.Tests.{eq-eqb, le-leb, leb-true, lt-leb, ne-eqb}
 use lib.Dec.{eqb, leb}
 use lib.ListN.{drop, length, length-append, length-drop, length-replicate, replicate}
-use lib.Seq.{drop-append-seam, drop-at}
+use lib.Seq.{drop-append-seam, drop-at, getD-append-seam}
 use mathlib.Core.Bool.{Bool, false, true}
 use mathlib.Core.List.{List, [], _++_, _∷_, append-assoc}
 use mathlib.Core.Logic.{_≢_}
@@ -17,7 +17,7 @@ use Rattle.model.specs.Records.{byte}
 use Rattle.model.specs.Validity.{labelIn}
 use Rattle.textform.specs.Laws.Nesting.{Nested, Right, cons, nil}
 use Rattle.textform.specs.Lines.{ambientWord, entry, inWord, indent, kindWord, lineBytes, openWord, outWord, render}
-use Rattle.textform.specs.Reading.{before, demand, digit, ended, labelled, lineRead, named, numeral, numeralOf, scanFrom, spaces, starts, unknownKind, worded}
+use Rattle.textform.specs.Reading.{before, causeAt, demand, digit, ended, labelled, leading, lineRead, markBytes, named, numberCause, numeral, numeralOf, scanFrom, spaces, starts, unknownKind, unworded, worded}
 use Rattle.textform.specs.declared.Line.{Line}
 use Rattle.textform.specs.declared.LineRead.{LineRead}
 use Rattle.textform.specs.declared.LineRead.the-variants.{Bad, Good}
@@ -103,18 +103,43 @@ space-no-digit : digit 32 ≡ false
 unfolding digit
 space-no-digit = refl
 
+-- nothing is wrong with a number that is written
+number-fine : (missing n c : ℕ) (s : List ℕ) → digit c ≡ false → numberCause missing (record { value = n; width = length (digitsIn 5 n) }) (digitsIn 5 n ++ (c ∷ s)) ≡ 0
+unfolding numberCause
+number-fine missing n c s e = rw (le-leb 1 (length (digitsIn 5 n)) (digits-some n), numberCause) (rw (getD-append-seam (digitsIn 5 n) c s 0) (rw e))
+
+-- a fault has a cause
+cause-some : (cause : ℕ) (s : List ℕ) → cause ≢ 0 → causeAt cause s ≢ 0
+unfolding causeAt
+cause-some cause s z = go (eqb (byte s 0) 13) (eqb (byte s 0) 9) (starts markBytes s)
+  where
+    go : (x y w : Bool) → _≢_ {A = ℕ} (elim x [ true ↦ 12 | false ↦ elim y [ true ↦ 13 | false ↦ elim w [ true ↦ 14 | false ↦ cause ] ] ]) 0
+    go true y w = omega arith
+    go false true w = omega arith
+    go false false true = omega arith
+    go false false false = z
+
+-- a number with nothing wrong is there
+pub number-some : (missing : ℕ) (n : Decimal) (s : List ℕ) → missing ≢ 0 → numberCause missing n s ≡ 0 → 1 ≤ n .width
+unfolding numberCause
+number-some missing n s z e = go (leb 1 (n .width)) refl
+  where
+    go : (b : Bool) → leb 1 (n .width) ≡ b → 1 ≤ n .width
+    go true q = leb-true 1 (n .width) q
+    go false q = absurd (cause-some missing s z (rw (q, numberCause) at e))
+
 -- the parts of a line that is written are read back
 named-back : (l : Line) → l .name ≤ 63 → (s : List ℕ) → named (l .depth) (l .kind) (l .label) (32 ∷ (digitsIn 5 (l .name) ++ (10 ∷ s))) ≡ Good l (length s)
 unfolding named demand ended
 named-back l h s =
     rw (numeral-digits (l .name) (omega arith) 10 s ten-no-digit)
-    (rw (le-leb 1 (length (digitsIn 5 (l .name))) (digits-some (l .name)), le-leb (l .name) 63 h, drop-append-seam (digitsIn 5 (l .name)) (10 ∷ s)))
+    (rw (number-fine 7 (l .name) 10 s ten-no-digit, le-leb (l .name) 63 h, drop-append-seam (digitsIn 5 (l .name)) (10 ∷ s)))
 
 labelled-back : (l : Line) → Right l → (s : List ℕ) → labelled (l .depth) (l .kind) (digitsIn 5 (l .label) ++ (32 ∷ (digitsIn 5 (l .name) ++ (10 ∷ s)))) ≡ Good l (length s)
 unfolding labelled demand
 labelled-back l r s =
     rw (numeral-digits (l .label) (omega (arith, label-in _ _ (r .label))) 32 _ space-no-digit)
-    (rw (le-leb 1 (length (digitsIn 5 (l .label))) (digits-some (l .label)), r .label, drop-append-seam (digitsIn 5 (l .label)) (32 ∷ (digitsIn 5 (l .name) ++ (10 ∷ s))))
+    (rw (number-fine 5 (l .label) 32 _ space-no-digit, r .label, drop-append-seam (digitsIn 5 (l .label)) (32 ∷ (digitsIn 5 (l .name) ++ (10 ∷ s))))
     (named-back l (r .name) s))
 
 worded-back : (d k : ℕ) → 1 ≤ k → k ≤ 4 → (s : List ℕ) → worded d (kindWord k ++ s) ≡ labelled d k s
@@ -127,7 +152,7 @@ worded-back d (suc (suc (suc (suc zero)))) l h s = refl
 worded-back d (suc (suc (suc (suc (suc k))))) l h s = absurd (omega arith)
 
 word-solid : (k : ℕ) → 1 ≤ k → k ≤ 4 → (s : List ℕ) → spaces (kindWord k ++ s) ≡ 0
-unfolding spaces kindWord ambientWord inWord outWord openWord
+unfolding leading kindWord ambientWord inWord outWord openWord
 word-solid zero l h s = absurd (omega arith)
 word-solid (suc zero) l h s = refl
 word-solid (suc (suc zero)) l h s = refl
@@ -136,7 +161,7 @@ word-solid (suc (suc (suc (suc zero)))) l h s = refl
 word-solid (suc (suc (suc (suc (suc k))))) l h s = absurd (omega arith)
 
 spaces-after : (n : ℕ) (s : List ℕ) → spaces s ≡ 0 → spaces (replicate n 32 ++ s) ≡ n
-unfolding spaces
+unfolding leading
 spaces-after zero s e = e
 spaces-after (suc n) s e = ap suc (spaces-after n s e)
 
@@ -159,7 +184,7 @@ line-back d l h r s =
 
 -- what is no line is no end
 empty-bad : (d : ℕ) → lineRead d [] ≡ Bad unknownKind
-unfolding lineRead demand spaces worded starts ambientWord inWord outWord openWord
+unfolding lineRead demand leading worded unworded causeAt starts ambientWord inWord outWord openWord markBytes
 empty-bad d = rw (le-leb 0 d (omega arith))
 
 -- a line, and then the others
@@ -196,7 +221,7 @@ pub ended-good : (m : Line) (s : List ℕ) {l : Line} {left : ℕ} → ended m s
 unfolding ended
 ended-good m [] e = let u : _≡_ {A = ℕ} 0 1 = cc in absurd (omega arith)
 ended-good m (c ∷ s) {l} {left} e =
-    let g = demand-good (eqb c 10) 9 (Good m (length s)) e .1 in
+    let g = demand-good (eqb c 10) _ (Good m (length s)) e .1 in
     let u : m ≡ l = cc in
     let v : length s ≡ left = cc in
     (u, omega arith)
@@ -205,8 +230,8 @@ pub named-good : (d k label : ℕ) (s : List ℕ) {l : Line} {left : ℕ} → na
 unfolding named
 named-good d k label s {l} {left} e =
     let n = numeral (drop 1 s) in
-    let a = demand-good (eqb (byte s 0) 32) 7 _ e .1 in
-    let b = demand-good (leb 1 (n .width)) 7 _ a .1 in
+    let a = demand-good (eqb (byte s 0) 32) _ _ e .1 in
+    let b = demand-good (eqb (numberCause 7 n (drop 1 s)) 0) _ _ a .1 in
     let c = demand-good (leb (n .value) 63) 8 _ b in
     let g = ended-good _ _ (c .1) in
     let w : l .name ≡ n .value = sym (ap (λ x. x .name) (g .0)) in
@@ -216,7 +241,7 @@ pub labelled-good : (d k : ℕ) (s : List ℕ) {l : Line} {left : ℕ} → 1 ≤
 unfolding labelled
 labelled-good d k s {l} {left} x y e =
     let n = numeral s in
-    let a = demand-good (leb 1 (n .width)) 5 _ e .1 in
+    let a = demand-good (eqb (numberCause 5 n s) 0) _ _ e .1 in
     let b = demand-good (labelIn (eqb k 1) (n .value)) 6 _ a in
     let g = named-good d k (n .value) _ (b .1) in
     record {
@@ -237,18 +262,18 @@ pub record Worded (d : ℕ) (s : List ℕ) (l : Line) (left : ℕ) : Type 0 wher
   pub after : labelled d kind (drop (length (kindWord kind)) s) ≡ Good l left
 
 pub worded-by : (d : ℕ) (s : List ℕ) {l : Line} {left : ℕ} → worded d s ≡ Good l left → Worded d s l left
-unfolding worded kindWord ambientWord inWord outWord openWord
+unfolding worded unworded kindWord ambientWord inWord outWord openWord
 worded-by d s {l} {left} e = first (starts ambientWord s) refl
   where
-    fourth : (b : Bool) → starts openWord s ≡ b → elim b [ true ↦ labelled d 4 (drop 5 s) | false ↦ Bad unknownKind ] ≡ Good l left → Worded d s l left
+    fourth : (b : Bool) → starts openWord s ≡ b → elim b [ true ↦ labelled d 4 (drop 5 s) | false ↦ unworded s ] ≡ Good l left → Worded d s l left
     fourth true t q = record { kind = 4; low = omega arith; high = omega arith; word = t; after = q }
     fourth false t q = let u : _≡_ {A = ℕ} 0 1 = cc in absurd (omega arith)
 
-    third : (b : Bool) → starts outWord s ≡ b → elim b [ true ↦ labelled d 3 (drop 4 s) | false ↦ elim (starts openWord s) [ true ↦ labelled d 4 (drop 5 s) | false ↦ Bad unknownKind ] ] ≡ Good l left → Worded d s l left
+    third : (b : Bool) → starts outWord s ≡ b → elim b [ true ↦ labelled d 3 (drop 4 s) | false ↦ elim (starts openWord s) [ true ↦ labelled d 4 (drop 5 s) | false ↦ unworded s ] ] ≡ Good l left → Worded d s l left
     third true t q = record { kind = 3; low = omega arith; high = omega arith; word = t; after = q }
     third false t q = fourth (starts openWord s) refl q
 
-    second : (b : Bool) → starts inWord s ≡ b → elim b [ true ↦ labelled d 2 (drop 3 s) | false ↦ elim (starts outWord s) [ true ↦ labelled d 3 (drop 4 s) | false ↦ elim (starts openWord s) [ true ↦ labelled d 4 (drop 5 s) | false ↦ Bad unknownKind ] ] ] ≡ Good l left → Worded d s l left
+    second : (b : Bool) → starts inWord s ≡ b → elim b [ true ↦ labelled d 2 (drop 3 s) | false ↦ elim (starts outWord s) [ true ↦ labelled d 3 (drop 4 s) | false ↦ elim (starts openWord s) [ true ↦ labelled d 4 (drop 5 s) | false ↦ unworded s ] ] ] ≡ Good l left → Worded d s l left
     second true t q = record { kind = 2; low = omega arith; high = omega arith; word = t; after = q }
     second false t q = third (starts outWord s) refl q
 
@@ -263,8 +288,8 @@ pub line-good : (d : ℕ) (s : List ℕ) {l : Line} {left : ℕ} → lineRead d 
 unfolding lineRead
 line-good d s e =
     let n = spaces s in
-    let a = demand-good (eqb (n % 2) 0) 2 _ e .1 in
-    let b = demand-good (leb (n / 2) d) 3 _ a in
+    let a = demand-good (eqb (n % 2) 0) _ _ e .1 in
+    let b = demand-good (leb (n / 2) d) _ _ a in
     let g = got-past n s (worded-good (n / 2) _ (b .1)) in
     record { deep = omega (arith, g .deep, leb-true (n / 2) d (b .0)); right = g .right; fewer = g .fewer }
 

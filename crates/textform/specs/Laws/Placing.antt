@@ -13,7 +13,7 @@ use Rattle.model.specs.Records.{at, encode, gone}
 use Rattle.textform.specs.Laws.Lines.{Got, line-good, scan-bad, scan-good, scan-nested}
 use Rattle.textform.specs.Laws.Nesting.{length-placed, none-length}
 use Rattle.textform.specs.Lines.{over}
-use Rattle.textform.specs.Reading.{Scan, before, causeOf, lineRead, noneAbove, placed, placedFrom, readAfter, readAnswer, readBy, readInto, recordOf, roomIn, scan, scanAnswer, scanFrom}
+use Rattle.textform.specs.Reading.{Scan, before, causeOf, lineRead, linesAnswer, noneAbove, placed, placedFrom, readAfter, readBy, readInto, recordOf, roomIn, scan, scanAnswer, scanFrom}
 use Rattle.textform.specs.Inner.{scanned}
 use Rattle.textform.specs.declared.Line.{Line}
 use Rattle.textform.specs.declared.LineRead.{LineRead}
@@ -179,11 +179,11 @@ module _ (text it scratch : List ℕ) (room : ℕ) (got : TextRead) (m : room �
   unfolding roomIn
   same-room = ap (λ r. scan r text) m
 
-  same-answer : got ≡ readAnswer text it
-  unfolding readAnswer
+  same-answer : got ≡ linesAnswer text it
+  unfolding linesAnswer
   same-answer = a ∙ ap scanAnswer same-room
 
-  pub read-fault : {l c : ℕ} → got ≡ Fault l c → (got ≡ readAnswer text it) × (it ≡ readAfter text it)
+  pub read-fault : {l c : ℕ} → got ≡ Fault l c → (got ≡ linesAnswer text it) × (it ≡ readAfter text it)
   unfolding readAfter
   read-fault {l} {c} e = (same-answer, rw (← same-room) (answer-fault (scan room text) l c _ it (sym a ∙ e)))
 
@@ -207,7 +207,7 @@ module _ (text it scratch : List ℕ) (room : ℕ) (got : TextRead) (m : room �
         rw (take-all (length (scan room text .lines)) (placed (scan room text .lines)) k) (take-at (encode (placed (scan room text .lines))) _ (8 * n) u)
 
     pub read-records : (scratch′ it′ : List ℕ) → scratch′ ≡ scanned (scan room text) scratch →
-        it′ ≡ take (length (take (8 * n) scratch′)) (take (8 * n) scratch′) ++ drop (length (take (8 * n) scratch′)) it → (Records n ≡ readAnswer text it) × (it′ ≡ readAfter text it)
+        it′ ≡ take (length (take (8 * n) scratch′)) (take (8 * n) scratch′) ++ drop (length (take (8 * n) scratch′)) it → (Records n ≡ linesAnswer text it) × (it′ ≡ readAfter text it)
     unfolding readAfter readInto over
     read-records scratch′ it′ p q =
         let w : take (8 * n) scratch′ ≡ encode (placed (scan room text .lines)) = ap (take (8 * n)) p ∙ head in

@@ -15,23 +15,33 @@ use Rattle.model.specs.Records.{byte}
 use Rattle.model.specs.Validity.{labelIn}
 use Rattle.textform.specs.Laws.Lines.{numeral-0, numeral-1, numeral-2, numeral-3}
 use Rattle.textform.specs.Lines.{ambientWord, inWord, openWord, outWord}
-use Rattle.textform.specs.Reading.{demand, digit, ended, labelled, lineRead, named, numeral, numeralOf, spaces, starts, worded}
+use Rattle.textform.specs.Reading.{causeAt, demand, digit, digitsCause, ended, indentCause, labelled, leading, lineRead, markBytes, named, numberCause, numeral, numeralOf, spaces, starts, unworded, worded}
 use Rattle.textform.specs.declared.Decimal.{Decimal}
 use Rattle.textform.specs.declared.Line.{Line}
 use Rattle.textform.specs.declared.LineRead.the-variants.{Bad, Good}
 
-module _ (s : List ℕ) (i : ℕ) where
-  pub spaces-stop : i < length s → getD s i 0 ≢ 32 → spaces (drop i s) ≡ 0
-  unfolding spaces
-  spaces-stop l e = rw (drop-cons s i 0 l) (rw (ne-eqb _ _ e, spaces))
+-- bytes that pass a test
+module _ (test : ℕ → Bool) (s : List ℕ) (i : ℕ) where
+  pub leading-stop : i < length s → test (getD s i 0) ≡ false → leading test (drop i s) ≡ 0
+  unfolding leading
+  leading-stop l e = rw (drop-cons s i 0 l) (rw (e, leading))
 
-  pub spaces-on : i < length s → getD s i 0 ≡ 32 → spaces (drop i s) ≡ suc (spaces (drop (i + 1) s))
-  unfolding spaces
-  spaces-on l e = let u : i + 1 ≡ suc i = omega arith in rw (drop-cons s i 0 l, u) (rw (eq-eqb _ _ e, spaces))
+  pub leading-on : i < length s → test (getD s i 0) ≡ true → leading test (drop i s) ≡ suc (leading test (drop (i + 1) s))
+  unfolding leading
+  leading-on l e = let u : i + 1 ≡ suc i = omega arith in rw (drop-cons s i 0 l, u) (rw (e, leading))
 
-  pub spaces-end : length s ≤ i → spaces (drop i s) ≡ 0
-  unfolding spaces
-  spaces-end l = rw (drop-of-length-le s l)
+  pub leading-end : length s ≤ i → leading test (drop i s) ≡ 0
+  unfolding leading
+  leading-end l = rw (drop-of-length-le s l)
+
+pub leading-inside : (test : ℕ → Bool) (s : List ℕ) → leading test s ≤ length s
+unfolding leading
+leading-inside test [] = omega arith
+leading-inside test (c ∷ s) = go (test c) (leading-inside test s)
+  where
+    go : (b : Bool) → leading test s ≤ length s → elim b [ true ↦ suc (leading test s) | false ↦ 0 ] ≤ suc (length s)
+    go true ih = omega arith
+    go false ih = omega arith
 
 module _ (w s : List ℕ) (i : ℕ) where
   pub starts-short : i < length w → length s ≤ i → starts (drop i w) (drop i s) ≡ false
@@ -107,12 +117,46 @@ numeral-width s =
     (λ p u q r. omega (arith, digit-inside s 1 q))
     (λ p u q r. omega (arith, digit-inside s 2 r))
 
+-- the cause at a place
+module _ (cause : ℕ) (s : List ℕ) where
+  pub cause-return : byte s 0 ≡ 13 → causeAt cause s ≡ 12
+  unfolding causeAt
+  cause-return e = rw (eq-eqb _ _ e, causeAt)
+
+  module _ (r : byte s 0 ≢ 13) where
+    pub cause-tab : byte s 0 ≡ 9 → causeAt cause s ≡ 13
+    unfolding causeAt
+    cause-tab e = rw (ne-eqb _ _ r, causeAt) (rw (eq-eqb _ _ e))
+
+    module _ (t : byte s 0 ≢ 9) where
+      pub cause-mark : starts markBytes s ≡ true → causeAt cause s ≡ 14
+      unfolding causeAt
+      cause-mark e = rw (ne-eqb _ _ r, causeAt) (rw (ne-eqb _ _ t) (rw e))
+
+      pub cause-given : starts markBytes s ≡ false → causeAt cause s ≡ cause
+      unfolding causeAt
+      cause-given e = rw (ne-eqb _ _ r, causeAt) (rw (ne-eqb _ _ t) (rw e))
+
+-- what is wrong with a number
+module _ (missing : ℕ) (n : Decimal) (s : List ℕ) where
+  pub number-missing : n .width < 1 → numberCause missing n s ≡ causeAt missing s
+  unfolding numberCause
+  number-missing h = rw (lt-leb 1 (n .width) h, numberCause)
+
+  pub number-more : 1 ≤ n .width → digit (byte s (n .width)) ≡ true → numberCause missing n s ≡ digitsCause (n .width)
+  unfolding numberCause
+  number-more h e = rw (le-leb 1 (n .width) h, numberCause) (rw e)
+
+  pub number-right : 1 ≤ n .width → digit (byte s (n .width)) ≡ false → numberCause missing n s ≡ 0
+  unfolding numberCause
+  number-right h e = rw (le-leb 1 (n .width) h, numberCause) (rw e)
+
 pub ended-none : (l : Line) (s : List ℕ) → length s ≡ 0 → ended l s ≡ Bad 10
 unfolding ended
 ended-none l [] e = refl
 ended-none l (c ∷ s) e = absurd (omega arith)
 
-pub ended-other : (l : Line) (s : List ℕ) → length s ≢ 0 → getD s 0 0 ≢ 10 → ended l s ≡ Bad 9
+pub ended-other : (l : Line) (s : List ℕ) → length s ≢ 0 → getD s 0 0 ≢ 10 → ended l s ≡ Bad (causeAt 9 s)
 unfolding ended demand
 ended-other l [] z e = absurd (z refl)
 ended-other l (c ∷ s) z e = rw (ne-eqb c 10 e)
@@ -124,35 +168,35 @@ ended-here l (c ∷ s) z e = let u : length s ≡ suc (length s) - 1 = omega ari
 
 -- each demand that fails, and all that hold
 module _ (d k label : ℕ) (s : List ℕ) where
-  pub named-apart : byte s 0 ≢ 32 → named d k label s ≡ Bad 7
+  pub named-apart : byte s 0 ≢ 32 → named d k label s ≡ Bad (causeAt 7 s)
   unfolding named demand
   named-apart e = rw (ne-eqb _ _ e)
 
-  module _ (e : byte s 0 ≡ 32) (n : Decimal) (q : n ≡ numeral (drop 1 s)) where
-    pub named-none : n .width < 1 → named d k label s ≡ Bad 7
+  module _ (e : byte s 0 ≡ 32) (n : Decimal) (q : n ≡ numeral (drop 1 s)) (x : ℕ) (c : x ≡ numberCause 7 n (drop 1 s)) where
+    pub named-wrong : x ≢ 0 → named d k label s ≡ Bad x
     unfolding named demand
-    named-none h = rw (eq-eqb _ _ e, ← q) (rw (lt-leb 1 (n .width) h))
+    named-wrong h = rw (eq-eqb _ _ e, ← q) (rw (← c) (rw (ne-eqb _ _ h)))
 
-    pub named-large : 1 ≤ n .width → 63 < n .value → named d k label s ≡ Bad 8
+    pub named-large : x ≡ 0 → 63 < n .value → named d k label s ≡ Bad 8
     unfolding named demand
-    named-large h l = rw (eq-eqb _ _ e, ← q) (rw (le-leb 1 (n .width) h, lt-leb (n .value) 63 l))
+    named-large h l = rw (eq-eqb _ _ e, ← q) (rw (← c) (rw (eq-eqb _ _ h, lt-leb (n .value) 63 l)))
 
-    pub named-on : 1 ≤ n .width → n .value ≤ 63 → named d k label s ≡ ended (record { depth = d; kind = k; label = label; name = n .value }) (drop (n .width) (drop 1 s))
+    pub named-on : x ≡ 0 → n .value ≤ 63 → named d k label s ≡ ended (record { depth = d; kind = k; label = label; name = n .value }) (drop (n .width) (drop 1 s))
     unfolding named demand
-    named-on h l = rw (eq-eqb _ _ e, ← q) (rw (le-leb 1 (n .width) h, le-leb (n .value) 63 l))
+    named-on h l = rw (eq-eqb _ _ e, ← q) (rw (← c) (rw (eq-eqb _ _ h, le-leb (n .value) 63 l)))
 
-module _ (d k : ℕ) (s : List ℕ) (n : Decimal) (q : n ≡ numeral s) where
-  pub labelled-none : n .width < 1 → labelled d k s ≡ Bad 5
+module _ (d k : ℕ) (s : List ℕ) (n : Decimal) (q : n ≡ numeral s) (x : ℕ) (c : x ≡ numberCause 5 n s) where
+  pub labelled-none : x ≢ 0 → labelled d k s ≡ Bad x
   unfolding labelled demand
-  labelled-none h = rw (← q) (rw (lt-leb 1 (n .width) h))
+  labelled-none h = rw (← q) (rw (← c) (rw (ne-eqb _ _ h)))
 
-  pub labelled-wrong : 1 ≤ n .width → labelIn (eqb k 1) (n .value) ≡ false → labelled d k s ≡ Bad 6
+  pub labelled-wrong : x ≡ 0 → labelIn (eqb k 1) (n .value) ≡ false → labelled d k s ≡ Bad 6
   unfolding labelled demand
-  labelled-wrong h e = rw (← q) (rw (le-leb 1 (n .width) h, e))
+  labelled-wrong h e = rw (← q) (rw (← c) (rw (eq-eqb _ _ h, e)))
 
-  pub labelled-on : 1 ≤ n .width → labelIn (eqb k 1) (n .value) ≡ true → labelled d k s ≡ named d k (n .value) (drop (n .width) s)
+  pub labelled-on : x ≡ 0 → labelIn (eqb k 1) (n .value) ≡ true → labelled d k s ≡ named d k (n .value) (drop (n .width) s)
   unfolding labelled demand
-  labelled-on h e = rw (← q) (rw (le-leb 1 (n .width) h, e))
+  labelled-on h e = rw (← q) (rw (← c) (rw (eq-eqb _ _ h, e)))
 
 module _ (d : ℕ) (s : List ℕ) where
   pub worded-1 : starts ambientWord s ≡ true → worded d s ≡ labelled d 1 (drop 8 s)
@@ -172,31 +216,22 @@ module _ (d : ℕ) (s : List ℕ) where
     unfolding worded
     worded-4 b o e = rw (a, worded) (rw b (rw o (rw e)))
 
-    pub worded-none : starts inWord s ≡ false → starts outWord s ≡ false → starts openWord s ≡ false → worded d s ≡ Bad 4
+    pub worded-none : starts inWord s ≡ false → starts outWord s ≡ false → starts openWord s ≡ false → worded d s ≡ unworded s
     unfolding worded
     worded-none b o e = rw (a, worded) (rw b (rw o (rw e)))
 
 module _ (deepest : ℕ) (s : List ℕ) (n : ℕ) (q : n ≡ spaces s) where
-  pub line-odd : n % 2 ≢ 0 → lineRead deepest s ≡ Bad 2
+  pub line-odd : n % 2 ≢ 0 → lineRead deepest s ≡ Bad (indentCause 2 deepest (drop n s))
   unfolding lineRead demand
   line-odd e = rw (← q) (rw (ne-eqb _ _ e))
 
-  pub line-deep : n % 2 ≡ 0 → deepest < n / 2 → lineRead deepest s ≡ Bad 3
+  pub line-deep : n % 2 ≡ 0 → deepest < n / 2 → lineRead deepest s ≡ Bad (indentCause 3 deepest (drop n s))
   unfolding lineRead demand
   line-deep e l = rw (← q) (rw (eq-eqb _ _ e, lt-leb (n / 2) deepest l))
 
   pub line-on : n % 2 ≡ 0 → n / 2 ≤ deepest → lineRead deepest s ≡ worded (n / 2) (drop n s)
   unfolding lineRead demand
   line-on e l = rw (← q) (rw (eq-eqb _ _ e, le-leb (n / 2) deepest l))
-
-pub spaces-inside : (s : List ℕ) → spaces s ≤ length s
-unfolding spaces
-spaces-inside [] = omega arith
-spaces-inside (c ∷ s) = go (eqb c 32) (spaces-inside s)
-  where
-    go : (b : Bool) → spaces s ≤ length s → elim b [ true ↦ suc (spaces s) | false ↦ 0 ] ≤ suc (length s)
-    go true ih = omega arith
-    go false ih = omega arith
 
 -- the part of a slice from n on
 pub part : (n : ℕ) (s : List ℕ) → take (length s - n) (drop n s) ≡ drop n s

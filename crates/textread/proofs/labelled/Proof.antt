@@ -12,23 +12,26 @@ use Rattle.textread.proofs.labelled.Tie as tie
 numeral-requires : tie.Need-numeral-requires
 numeral-requires c κs = search needs
 
+number-cause-requires : tie.Need-number-cause-requires
+number-cause-requires c κs = search needs
+
 returns : tie.Need-returns
-returns c = sym (labelled-none _ _ _ (c .before .numeral .result) (c .before .numeral .ensures) (c .if1 .taken))
+returns c = sym (labelled-none _ _ _ (c .before .before .numeral .result) (c .before .before .numeral .ensures) (c .before .number-cause .result) (c .before .number-cause .ensures) (c .if1 .taken))
 
 label-in-requires : tie.Need-label-in-requires
 label-in-requires c κs = search needs
 
 returns-2 : tie.Need-returns-2
-returns-2 c = sym (labelled-wrong _ _ _ (c .before .before .before .numeral .result) (c .before .before .before .numeral .ensures) (c .before .before .if1 .left) (sym (c .before .label-in .ensures) ∙ not-true _ (c .if2 .taken)))
+returns-2 c = sym (labelled-wrong _ _ _ (c .before .before .before .before .numeral .result) (c .before .before .before .before .numeral .ensures) (c .before .before .before .number-cause .result) (c .before .before .before .number-cause .ensures) (c .before .before .if1 .left) (sym (c .before .label-in .ensures) ∙ not-true _ (c .if2 .taken)))
 
 cast-named : tie.Need-cast-named
 cast-named c = record { fits = omega (arith, label-in _ _ (sym (c .before .before .label-in .ensures) ∙ not-false _ (c .before .if2 .left))) }
 
 sub-named : tie.Need-sub-named
-sub-named c = width-inside _ _ (c .before .before .before .before .numeral .ensures)
+sub-named c = width-inside _ _ (c .before .before .before .before .before .numeral .ensures)
 
 part-named-start : tie.Need-part-named-start
-part-named-start c = width-inside _ _ (c .before .before .before .before .numeral .ensures)
+part-named-start c = width-inside _ _ (c .before .before .before .before .before .numeral .ensures)
 
 part-named-end : tie.Need-part-named-end
 part-named-end c = search needs
@@ -38,14 +41,16 @@ named-requires c κs = search needs
 
 returns-3 : tie.Need-returns-3
 returns-3 c =
-    let numeral = c .before .before .before .before .before .before .numeral in
-    c .named .ensures ∙ ap (named _ _ _) (part (numeral .result .width) (c .before .before .before .before .before .before .before .before .args .s .now)) ∙ sym (labelled-on _ _ _ (numeral .result) (numeral .ensures) (c .before .before .before .before .before .if1 .left) (sym (c .before .before .before .before .label-in .ensures) ∙ not-false _ (c .before .before .before .if2 .left)))
+    let numeral = c .before .before .before .before .before .before .before .numeral in
+    let wrong = c .before .before .before .before .before .before .number-cause in
+    c .named .ensures ∙ ap (named _ _ _) (part (numeral .result .width) (c .before .before .before .before .before .before .before .before .before .args .s .now)) ∙ sym (labelled-on _ _ _ (numeral .result) (numeral .ensures) (wrong .result) (wrong .ensures) (c .before .before .before .before .before .if1 .left) (sym (c .before .before .before .before .label-in .ensures) ∙ not-false _ (c .before .before .before .if2 .left)))
 
 pub labelled-spec : {M : Type 1} → statement M
 labelled-spec =
     tie.close
     (tie.spec
     numeral-requires
+    number-cause-requires
     returns
     label-in-requires
     returns-2

@@ -2,16 +2,20 @@
 use borrow.Author.Needs.{needs}
 use mathlib.Core.Path.{_∙_, ap, sym}
 use native.Mathlib.Omega.{arith}
-use Rattle.textform.specs.Laws.Scanning.{byte-inside, named-apart, named-large, named-none, named-on, part, part-part, width-inside}
-use Rattle.textform.specs.Reading.{ended, numeral}
+use Rattle.textform.specs.Laws.Scanning.{byte-inside, named-apart, named-large, named-on, named-wrong, part, part-part, width-inside}
+use Rattle.textform.specs.Reading.{ended, numberCause, numeral}
+use Rattle.textform.specs.declared.LineRead.the-variants.{Bad}
 use Rattle.textread.proofs.named.Statement.{statement}
 use Rattle.textread.proofs.named.Tie as tie
 
 byte-at-requires : tie.Need-byte-at-requires
 byte-at-requires c κs = search needs
 
+cause-at-requires : tie.Need-cause-at-requires
+cause-at-requires c κs = search needs
+
 returns : tie.Need-returns
-returns c = sym (named-apart _ _ _ _ (λ q. c .if1 .taken (c .before .byte-at .ensures ∙ q)))
+returns c = ap Bad (c .cause-at .ensures) ∙ sym (named-apart _ _ _ _ (λ q. c .before .if1 .taken (c .before .before .byte-at .ensures ∙ q)))
 
 sub-rest : tie.Need-sub-rest
 sub-rest c = byte-inside (c .before .before .before .args .s .now) 0 (λ z. omega (arith, z, c .before .byte-at .ensures, c .if1 .left))
@@ -25,22 +29,23 @@ part-rest-end c = search needs
 numeral-requires : tie.Need-numeral-requires
 numeral-requires c κs = search needs
 
+number-cause-requires : tie.Need-number-cause-requires
+number-cause-requires c κs = search needs
+
 returns-2 : tie.Need-returns-2
-returns-2 c = sym (named-none _ _ _ _ (sym (c .before .before .before .before .byte-at .ensures) ∙ c .before .before .before .if1 .left) (c .before .numeral .result) (c .before .numeral .ensures ∙ ap numeral (part 1 (c .before .before .before .before .before .before .args .s .now))) (c .if2 .taken))
+returns-2 c = sym (named-wrong _ _ _ _ (sym (c .before .before .before .before .before .byte-at .ensures) ∙ c .before .before .before .before .if1 .left) (c .before .before .numeral .result) (c .before .before .numeral .ensures ∙ ap numeral (part 1 (c .before .before .before .before .before .before .before .args .s .now))) (c .before .number-cause .result) (c .before .number-cause .ensures ∙ ap (numberCause 7 _) (part 1 (c .before .before .before .before .before .before .before .args .s .now))) (c .if2 .taken))
 
 returns-3 : tie.Need-returns-3
-returns-3 c =
-    let numeral₁ = c .before .before .before .numeral in
-    sym (named-large _ _ _ _ (sym (c .before .before .before .before .before .before .byte-at .ensures) ∙ c .before .before .before .before .before .if1 .left) (numeral₁ .result) (numeral₁ .ensures ∙ ap numeral (part 1 (c .before .before .before .before .before .before .before .before .args .s .now))) (c .before .before .if2 .left) (c .if3 .taken))
+returns-3 c = sym (named-large _ _ _ _ (sym (c .before .before .before .before .before .before .before .byte-at .ensures) ∙ c .before .before .before .before .before .before .if1 .left) (c .before .before .before .before .numeral .result) (c .before .before .before .before .numeral .ensures ∙ ap numeral (part 1 (c .before .before .before .before .before .before .before .before .before .args .s .now))) (c .before .before .before .number-cause .result) (c .before .before .before .number-cause .ensures ∙ ap (numberCause 7 _) (part 1 (c .before .before .before .before .before .before .before .before .before .args .s .now))) (c .before .before .if2 .left) (c .if3 .taken))
 
-cast-t8 : tie.Need-cast-t8
-cast-t8 c = search needs
+cast-t9 : tie.Need-cast-t9
+cast-t9 c = search needs
 
 sub-ended : tie.Need-sub-ended
-sub-ended c = width-inside _ _ (c .before .before .before .before .numeral .ensures)
+sub-ended c = width-inside _ _ (c .before .before .before .before .before .numeral .ensures)
 
 part-ended-start : tie.Need-part-ended-start
-part-ended-start c = width-inside _ _ (c .before .before .before .before .numeral .ensures)
+part-ended-start c = width-inside _ _ (c .before .before .before .before .before .numeral .ensures)
 
 part-ended-end : tie.Need-part-ended-end
 part-ended-end c = search needs
@@ -49,24 +54,23 @@ ended-requires : tie.Need-ended-requires
 ended-requires c κs = search needs
 
 returns-4 : tie.Need-returns-4
-returns-4 c =
-    let args = c .before .before .before .before .before .before .before .before .before .before .before .args in
-    let numeral₁ = c .before .before .before .before .before .before .numeral in
-    c .ended .ensures ∙ ap (ended _) (part-part (numeral₁ .result .width) 1 (args .s .now)) ∙ sym (named-on _ _ _ _ (sym (c .before .before .before .before .before .before .before .before .before .byte-at .ensures) ∙ c .before .before .before .before .before .before .before .before .if1 .left) (numeral₁ .result) (numeral₁ .ensures ∙ ap numeral (part 1 (args .s .now))) (c .before .before .before .before .before .if2 .left) (c .before .before .before .if3 .left))
+returns-4 c = c .ended .ensures ∙ ap (ended _) (part-part (c .before .before .before .before .before .before .before .numeral .result .width) 1 (c .before .before .before .before .before .before .before .before .before .before .before .before .args .s .now)) ∙ sym (named-on _ _ _ _ (sym (c .before .before .before .before .before .before .before .before .before .before .byte-at .ensures) ∙ c .before .before .before .before .before .before .before .before .before .if1 .left) (c .before .before .before .before .before .before .before .numeral .result) (c .before .before .before .before .before .before .before .numeral .ensures ∙ ap numeral (part 1 (c .before .before .before .before .before .before .before .before .before .before .before .before .args .s .now))) (c .before .before .before .before .before .before .number-cause .result) (c .before .before .before .before .before .before .number-cause .ensures ∙ ap (numberCause 7 _) (part 1 (c .before .before .before .before .before .before .before .before .before .before .before .before .args .s .now))) (c .before .before .before .before .before .if2 .left) (c .before .before .before .if3 .left))
 
 pub named-spec : {M : Type 1} → statement M
 named-spec =
     tie.close
     (tie.spec
     byte-at-requires
+    cause-at-requires
     returns
     sub-rest
     part-rest-start
     part-rest-end
     numeral-requires
+    number-cause-requires
     returns-2
     returns-3
-    cast-t8
+    cast-t9
     sub-ended
     part-ended-start
     part-ended-end

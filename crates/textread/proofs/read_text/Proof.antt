@@ -2,8 +2,8 @@
 use Prim.Native.Nat.{ℕ}
 use borrow.Author.Needs.{needs}
 use lib.ListN.{length-replicate}
-use mathlib.Core.Path.{refl}
-use Rattle.textform.specs.Reading.{noneAbove}
+use mathlib.Core.Path.{_∙_, ap, refl}
+use Rattle.textform.specs.Reading.{lengthTold, noneAbove, readAnswer}
 use Rattle.textread.proofs.read_text.Statement.{statement}
 use Rattle.textread.proofs.read_text.Tie as tie
 
@@ -17,11 +17,15 @@ read-by-requires : tie.Need-read-by-requires
 unfolding noneAbove
 read-by-requires c κs = (length-replicate {0} {A = ℕ} 8192 0, refl)
 
+length-told-requires : tie.Need-length-told-requires
+length-told-requires c κs = search needs
+
 same-length : tie.Need-same-length
 same-length c = search needs
 
 returns : tie.Need-returns
-returns c = search needs
+unfolding readAnswer
+returns c = (c .length-told .ensures ∙ ap (lengthTold _) (c .before .before .before .before .before .read-by .ensures .0), c .before .before .before .before .before .read-by .ensures .1)
 
 pub read-text-spec : {M : Type 1} → statement M
 read-text-spec =
@@ -30,5 +34,6 @@ read-text-spec =
     slice-aggregate-read-by
     slice-aggregate-read-by-2
     read-by-requires
+    length-told-requires
     same-length
     returns)

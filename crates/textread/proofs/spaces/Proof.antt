@@ -1,9 +1,11 @@
 -- `textread::spaces` meets its contract. The loop's invariant: the bytes before i are spaces.
 use Prim.Native.Nat.{_+_, _-_, _≤_}
+use borrow.Author.Tests.{eq-eqb, ne-eqb}
+use lib.Dec.{eqb}
 use lib.ListN.{drop, length}
 use mathlib.Core.Path.{_≡_}
 use native.Mathlib.Omega.{arith}
-use Rattle.textform.specs.Laws.Scanning.{spaces-end, spaces-on, spaces-stop}
+use Rattle.textform.specs.Laws.Scanning.{leading-end, leading-on, leading-stop}
 use Rattle.textform.specs.Reading.{spaces}
 use Rattle.textread.proofs.spaces.Statement.{statement}
 use Rattle.textread.proofs.spaces.Tie as tie
@@ -21,7 +23,7 @@ shared-slice-read-if1 : tie.Need-shared-slice-read-if1 Inv-loop μ-loop
 shared-slice-read-if1 c = omega arith
 
 returns : tie.Need-returns Inv-loop μ-loop
-returns c = omega (arith, c .before .before .before .loop .inv .1, spaces-stop (c .before .before .before .before .args .s .now) (c .before .before .before .loop .i) (c .before .before .loop-test .taken) (c .if1 .taken))
+returns c = omega (arith, c .before .before .before .loop .inv .1, leading-stop (λ c. eqb c 32) (c .before .before .before .before .args .s .now) (c .before .before .before .loop .i) (c .before .before .loop-test .taken) (ne-eqb _ _ (c .if1 .taken)))
 
 add-i : tie.Need-add-i Inv-loop μ-loop
 add-i c = omega arith
@@ -30,10 +32,10 @@ loop-less : tie.Need-loop-less Inv-loop μ-loop
 loop-less c = omega arith
 
 loop-again : tie.Need-loop-again Inv-loop μ-loop
-loop-again c = (omega arith, omega (arith, c .before .before .before .loop .inv .1, spaces-on (c .before .before .before .before .args .s .now) (c .before .before .before .loop .i) (c .before .before .loop-test .taken) (c .if1 .left)))
+loop-again c = (omega arith, omega (arith, c .before .before .before .loop .inv .1, leading-on (λ c. eqb c 32) (c .before .before .before .before .args .s .now) (c .before .before .before .loop .i) (c .before .before .loop-test .taken) (eq-eqb _ _ (c .if1 .left))))
 
 returns-2 : tie.Need-returns-2 Inv-loop μ-loop
-returns-2 c = omega (arith, c .before .loop .inv .1, spaces-end (c .before .before .args .s .now) (c .before .loop .i) (c .loop-test .left))
+returns-2 c = omega (arith, c .before .loop .inv .1, leading-end (λ c. eqb c 32) (c .before .before .args .s .now) (c .before .loop .i) (c .loop-test .left))
 
 pub spaces-spec : {M : Type 1} → statement M
 spaces-spec =

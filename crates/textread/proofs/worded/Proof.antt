@@ -103,9 +103,12 @@ returns-4 : tie.Need-returns-4
 unfolding ambientWord inWord outWord openWord
 returns-4 c = c .labelled4 .ensures ∙ ap (labelled _ 4) (part 5 (c .before .before .before .before .before .before .before .before .before .before .before .before .before .before .before .args .s .now)) ∙ sym (worded-4 _ _ (sym (c .before .before .before .before .before .before .before .before .before .before .before .before .starts .ensures) ∙ c .before .before .before .before .before .before .before .before .before .before .before .if1 .left) (sym (c .before .before .before .before .before .before .before .before .before .starts2 .ensures) ∙ c .before .before .before .before .before .before .before .before .if2 .left) (sym (c .before .before .before .before .before .before .starts3 .ensures) ∙ c .before .before .before .before .before .if3 .left) (sym (c .before .before .before .starts4 .ensures) ∙ c .before .before .if4 .taken))
 
+unworded-requires : tie.Need-unworded-requires
+unworded-requires c κs = search needs
+
 returns-5 : tie.Need-returns-5
 unfolding ambientWord inWord outWord openWord
-returns-5 c = sym (worded-none _ _ (sym (c .before .before .before .before .before .before .before .before .before .before .starts .ensures) ∙ c .before .before .before .before .before .before .before .before .before .if1 .left) (sym (c .before .before .before .before .before .before .before .starts2 .ensures) ∙ c .before .before .before .before .before .before .if2 .left) (sym (c .before .before .before .before .starts3 .ensures) ∙ c .before .before .before .if3 .left) (sym (c .before .starts4 .ensures) ∙ c .if4 .left))
+returns-5 c = c .unworded .ensures ∙ sym (worded-none _ _ (sym (c .before .before .before .before .before .before .before .before .before .before .before .starts .ensures) ∙ c .before .before .before .before .before .before .before .before .before .before .if1 .left) (sym (c .before .before .before .before .before .before .before .before .starts2 .ensures) ∙ c .before .before .before .before .before .before .before .if2 .left) (sym (c .before .before .before .before .before .starts3 .ensures) ∙ c .before .before .before .before .if3 .left) (sym (c .before .before .starts4 .ensures) ∙ c .before .if4 .left))
 
 pub worded-spec : {M : Type 1} → statement M
 worded-spec =
@@ -139,4 +142,5 @@ worded-spec =
     part-labelled-end-4
     labelled-requires-4
     returns-4
+    unworded-requires
     returns-5)
