@@ -86,33 +86,33 @@ zeros t n e f i = go (decLt i n)
     go (yes l) = f i l
     go (no d) = List·getD-eq-default t 0 (omega arith)
 
--- ---- a table whose part from byte 1,024 was lent
+-- ---- a table whose names part, the 512 bytes from byte 1,024, was lent
 
-module _ (t h : List ℕ) (lt : length t ≡ 1544) (lh : length h ≡ 520) where
+module _ (t h : List ℕ) (lt : length t ≡ 1544) (lh : length h ≡ 512) where
   abbrev pub back : List ℕ
-  back = take 1024 t ++ (h ++ drop (length t - 1024) (drop 1024 t))
+  back = take 1024 t ++ (h ++ drop 512 (drop 1024 t))
 
   front : length (take 1024 t) ≡ 1024
   front = length-take-le 1024 t (omega arith)
 
   back-low : (i : ℕ) → i < 1024 → getD back i 0 ≡ getD t i 0
-  back-low i l = List·getD-append (take 1024 t) (h ++ drop (length t - 1024) (drop 1024 t)) 0 i (subst (λ (n : ℕ). i < n) (sym front) l) ∙ getD-take 1024 t i 0 l
+  back-low i l = List·getD-append (take 1024 t) (h ++ drop 512 (drop 1024 t)) 0 i (subst (λ (n : ℕ). i < n) (sym front) l) ∙ getD-take 1024 t i 0 l
 
-  back-high : (i : ℕ) → i < 520 → getD back (1024 + i) 0 ≡ getD h i 0
+  back-high : (i : ℕ) → i < 512 → getD back (1024 + i) 0 ≡ getD h i 0
   back-high i l =
-      ap (λ (n : ℕ). getD back (n + i) 0) (sym front) ∙ getD-append-add (take 1024 t) (h ++ drop (length t - 1024) (drop 1024 t)) i 0
-      ∙ List·getD-append h (drop (length t - 1024) (drop 1024 t)) 0 i (subst (λ (n : ℕ). i < n) (sym lh) l)
+      ap (λ (n : ℕ). getD back (n + i) 0) (sym front) ∙ getD-append-add (take 1024 t) (h ++ drop 512 (drop 1024 t)) i 0
+      ∙ List·getD-append h (drop 512 (drop 1024 t)) 0 i (subst (λ (n : ℕ). i < n) (sym lh) l)
 
-  back-past : (i : ℕ) → getD back (1544 + i) 0 ≡ getD t (1544 + i) 0
+  back-past : (i : ℕ) → getD back (1536 + i) 0 ≡ getD t (1536 + i) 0
   back-past i =
-      let e : 1544 + i ≡ 1024 + (520 + i) = omega arith in
-      let f : 1024 + (length t - 1024 + i) ≡ 1544 + i = omega arith in
+      let e : 1536 + i ≡ 1024 + (512 + i) = omega arith in
+      let f : 1024 + (512 + i) ≡ 1536 + i = omega arith in
       ap (λ (n : ℕ). getD back n 0) e
-      ∙ ap (λ (n : ℕ). getD back (n + (520 + i)) 0) (sym front) ∙ getD-append-add (take 1024 t) (h ++ drop (length t - 1024) (drop 1024 t)) (520 + i) 0
-      ∙ ap (λ (n : ℕ). getD (h ++ drop (length t - 1024) (drop 1024 t)) (n + i) 0) (sym lh) ∙ getD-append-add h (drop (length t - 1024) (drop 1024 t)) i 0
-      ∙ getD-drop (length t - 1024) (drop 1024 t) i 0 ∙ getD-drop 1024 t (length t - 1024 + i) 0 ∙ ap (λ (n : ℕ). getD t n 0) f
+      ∙ ap (λ (n : ℕ). getD back (n + (512 + i)) 0) (sym front) ∙ getD-append-add (take 1024 t) (h ++ drop 512 (drop 1024 t)) (512 + i) 0
+      ∙ ap (λ (n : ℕ). getD (h ++ drop 512 (drop 1024 t)) (n + i) 0) (sym lh) ∙ getD-append-add h (drop 512 (drop 1024 t)) i 0
+      ∙ getD-drop 512 (drop 1024 t) i 0 ∙ getD-drop 1024 t (512 + i) 0 ∙ ap (λ (n : ℕ). getD t n 0) f
 
-  part-bit : (j : ℕ) → j < 4160 → bits back (8192 + j) ≡ bits h j
+  part-bit : (j : ℕ) → j < 4096 → bits back (8192 + j) ≡ bits h j
   unfolding bitAt
   part-bit j l =
       let q : (8192 + j) / 8 ≡ 1024 + j / 8 = omega arith in
@@ -122,22 +122,22 @@ module _ (t h : List ℕ) (lt : length t ≡ 1544) (lh : length h ≡ 520) where
   -- where the rest of the table is clear, its bits are the part's
   part-only : ((i : ℕ) → getD t i 0 ≡ 0) → (u : Set) → Inside (bits h) (λ j. u (8192 + j)) → Inside (bits back) u
   unfolding bitAt
-  part-only z u s j b = go (decLt j 8192) (decLt j 12352)
+  part-only z u s j b = go (decLt j 8192) (decLt j 12288)
     where
       clear-at : (x : ℕ) → getD back (j / 8) 0 ≡ getD t x 0 → u j ≡ true
       clear-at x e = absurd (true≢false (sym b ∙ ap (λ (y : ℕ). testBit y (j % 8)) (e ∙ z x) ∙ zero-bit (j % 8)))
 
-      go : Dec (j < 8192) → Dec (j < 12352) → u j ≡ true
+      go : Dec (j < 8192) → Dec (j < 12288) → u j ≡ true
       go (yes l) d = clear-at (j / 8) (back-low (j / 8) (omega arith))
       go (no d) (yes l) =
           let e : 8192 + (j - 8192) ≡ j = omega arith in
           sym (ap u e) ∙ s (j - 8192) (sym (part-bit (j - 8192) (omega arith)) ∙ ap (bits back) e ∙ b)
       go (no d) (no d′) =
-          let e : j / 8 ≡ 1544 + (j / 8 - 1544) = omega arith in
-          clear-at (1544 + (j / 8 - 1544)) (ap (λ (x : ℕ). getD back x 0) e ∙ back-past (j / 8 - 1544))
+          let e : j / 8 ≡ 1536 + (j / 8 - 1536) = omega arith in
+          clear-at (1536 + (j / 8 - 1536)) (ap (λ (x : ℕ). getD back x 0) e ∙ back-past (j / 8 - 1536))
 
-pub part-long : (t : List ℕ) → length t ≡ 1544 → length (take (length t - 1024) (drop 1024 t)) ≡ 520
-part-long t l = length-take-le (length t - 1024) (drop 1024 t) (le-of-eq (sym (length-drop 1024 t))) ∙ ap (λ (x : ℕ). x - 1024) l
+pub part-long : (t : List ℕ) → length t ≡ 1544 → length (take 512 (drop 1024 t)) ≡ 512
+part-long t l = length-take-le 512 (drop 1024 t) (omega (arith, length-drop 1024 t))
 
 part-clear : (t : List ℕ) (n : ℕ) → ((i : ℕ) → getD t i 0 ≡ 0) → (i : ℕ) → getD (take n (drop 1024 t)) i 0 ≡ 0
 part-clear t n z i = go (decLt i n)
@@ -148,10 +148,10 @@ part-clear t n z i = go (decLt i n)
 
 -- ---- the base
 
--- t is clear; its part from byte 1,024 comes back as h′; then the high labels give t₃, and the nesting t₄
-pub based : (s policy t h′ t₃ t₄ : List ℕ) → validity s ≡ pass → (l : length t ≡ 1544) → ((i : ℕ) → getD t i 0 ≡ 0) → (l′ : length h′ ≡ 520) →
-    Filled (bearing (records s)) (nameCell (records s)) (count s) (bits (take (length t - 1024) (drop 1024 t))) (bits h′) →
-    Filled (isHigh policy) placeS 64 (bits (take 1024 t ++ (h′ ++ drop (length t - 1024) (drop 1024 t)))) (bits t₃) →
+-- t is clear; its names part comes back as h′; then the high labels give t₃, and the nesting t₄
+pub based : (s policy t h′ t₃ t₄ : List ℕ) → validity s ≡ pass → (l : length t ≡ 1544) → ((i : ℕ) → getD t i 0 ≡ 0) → (l′ : length h′ ≡ 512) →
+    Filled (bearing (records s)) (nameCell (records s)) (count s) (bits (take 512 (drop 1024 t))) (bits h′) →
+    Filled (isHigh policy) placeS 64 (bits (take 1024 t ++ (h′ ++ drop 512 (drop 1024 t)))) (bits t₃) →
     Filled (standing (records s)) (nestCell (records s)) (count s) (bits t₃) (bits t₄) → Based (records s) policy (bits t₄)
 unfolding Wanted bearing nameCell bitAt
 based s policy t h′ t₃ t₄ v l z l′ N G E = record {
@@ -165,7 +165,7 @@ based s policy t h′ t₃ t₄ v l z l′ N G E = record {
   };
   inside = λ u b. E .inside u (G .inside u
       (part-only t h′ l l′ z u (N .inside (λ j. u (8192 + j))
-      (λ j c. absurd (true≢false (sym c ∙ ap (λ (x : ℕ). testBit x (j % 8)) (part-clear t (length t - 1024) z (j / 8)) ∙ zero-bit (j % 8))))
+      (λ j c. absurd (true≢false (sym c ∙ ap (λ (x : ℕ). testBit x (j % 8)) (part-clear t 512 z (j / 8)) ∙ zero-bit (j % 8))))
       (λ x q. b .names x (omega (arith, n)))))
       (b .highs)) (λ x q. b .nests x (omega (arith, n)));
 }

@@ -33,9 +33,9 @@ fn clear(table: &mut [u8])
     }
 }
 
-// Sets the bits of H that the itinerary asks for, in the part of the table from byte 1,024. (inner)
+// Sets the bits of H that the itinerary asks for, in the names part of the table. (inner)
 fn fill_names(names: &mut [u8], it: &[u8])
-    requires { ⌜ length (now names) ≡ 520 ⌝ }
+    requires { ⌜ length (now names) ≡ 512 ⌝ }
     requires { ⌜ validity (now it) ≡ pass ⌝ }
     ensures { λ _. ⌜ Filled (bearing (records (now (it .entry)))) (nameCell (records (now (it .entry)))) (count (now (it .entry))) (bits (now (names .entry))) (bits (now (names .exit))) ⌝ }
 {
@@ -104,7 +104,7 @@ fn base(table: &mut [u8], it: &[u8], policy: &[u8])
     ensures { λ _. ⌜ Based (records (now (it .entry))) (now (policy .entry)) (bits (now (table .exit))) ⌝ }
 {
     clear(table);
-    fill_names(&mut table[1024..], it);
+    fill_names(&mut table[1024..1536], it);
     fill_high(table, policy);
     fill_nesting(table, it);
 }

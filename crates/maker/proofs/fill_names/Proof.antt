@@ -35,7 +35,7 @@ record-at-requires c κs = tt
 
 -- an ambient of a valid itinerary has its bit within the part
 known : (c : tie.Then1 Inv-loop μ-loop) →
-    (c .before .before .record-at .result .label < 64) × (c .before .before .record-at .result .name < 64) × (length (c .before .before .before .before .loop .names) ≡ 520)
+    (c .before .before .record-at .result .label < 64) × (c .before .before .record-at .result .name < 64) × (length (c .before .before .before .before .loop .names) ≡ 512)
 unfolding count
 known c =
     let s = c .before .before .before .before .before .before .before in
