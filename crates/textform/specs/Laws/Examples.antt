@@ -1,6 +1,7 @@
 -- Example B of document 01 as text, read, written and listed; and a fault with its line.
 use Prim.Native.Nat.{ℕ}
 use lib.Dec.{eqb}
+use lib.ListN.{replicate}
 use mathlib.Core.List.{List, [], _∷_}
 use mathlib.Core.Path.{_≡_, refl}
 use Rattle.model.specs.Climbing.{hides, isSuspect, view, viewFrom}
@@ -10,8 +11,9 @@ use Rattle.model.specs.Records.{at, encode, isAmbient}
 use Rattle.model.specs.Validity.{labelIn}
 use Rattle.model.specs.declared.Rec.{Rec}
 use Rattle.textform.specs.Lines.{ambientWord, entry, hiddenWord, inWord, indent, kindWord, lineBytes, openWord, outWord, render}
-use Rattle.textform.specs.Reading.{before, bytesOf, causeAt, demand, digit, ended, labelled, leading, lineRead, numberCause, named, noneAbove, numeral, numeralOf, placed, placedFrom, recordOf, scan, scanFrom, starts, worded}
+use Rattle.textform.specs.Reading.{before, bytesOf, carriageReturn, causeAt, demand, digit, ended, labelled, leading, lengthTold, lineRead, linesAnswer, named, noneAbove, numberCause, numeral, numeralOf, placed, placedFrom, readAnswer, readBy, recordOf, roomIn, scan, scanAnswer, scanFrom, starts, worded}
 use Rattle.textform.specs.Writing.{childAfter, childOr, isChild, lineAt, linesOf, listLine, listOf, mark, nextFrom, orZero, textOf, walk, walkFrom}
+use Rattle.textform.specs.declared.TextRead.the-variants.{Fault}
 
 -- records (1,1,0,parent 0), (1,2,1,parent 1), (3,64,0,parent 2)
 unfoldable pub exampleB : List Rec
@@ -44,6 +46,14 @@ writes-b = refl
 pub reads-b : bytesOf textB ≡ encode exampleB
 unfolding bytesOf exampleB textB scan scanFrom before lineRead worded labelled named ended demand numeral numeralOf digit starts leading causeAt numberCause ambientWord inWord outWord openWord labelIn placed placedFrom recordOf noneAbove encode
 reads-b = refl
+
+-- "ambient 1 0", with a carriage return before the end of the line
+unfoldable pub textReturn : List ℕ
+textReturn = 97 ∷ 109 ∷ 98 ∷ 105 ∷ 101 ∷ 110 ∷ 116 ∷ 32 ∷ 49 ∷ 32 ∷ 48 ∷ 13 ∷ 10 ∷ []
+
+pub faults-return : readAnswer textReturn (replicate 8 0) ≡ Fault 1 carriageReturn
+unfolding textReturn readAnswer linesAnswer lengthTold scanAnswer readBy roomIn scan scanFrom lineRead worded labelled named ended demand numeral numeralOf digit starts leading causeAt numberCause ambientWord labelIn
+faults-return = refl
 
 -- where label 2 alone is suspect
 pub lists-b : listOf exampleB (λ k. eqb k 2) ≡ listingB
