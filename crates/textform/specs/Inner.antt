@@ -9,7 +9,7 @@ use Rattle.reading.specs.Written.{written}
 use Rattle.model.specs.Listing.{digitsIn, field}
 use Rattle.model.specs.Records.{at, records}
 use Rattle.model.specs.declared.Rec.{Rec}
-use Rattle.textform.specs.Lines.{entry, kindWord, splice}
+use Rattle.textform.specs.Lines.{entry, kindWord}
 use Rattle.textform.specs.Reading.{Scan, placed}
 use Rattle.textform.specs.Writing.{fits, lineAt, linesOf, mark, overIf, walk}
 use Rattle.textform.specs.declared.Line.{Line}
@@ -25,11 +25,6 @@ pub record Placeable (it above : List ℕ) (k depth : ℕ) : Type 0 where
 -- the bytes after a scan wrote the records of its lines over them
 unfoldable pub scanned : Scan → List ℕ → List ℕ
 scanned x it = written (placed (x .lines)) (length (x .lines)) it
-
--- t′ is t with w put at place p, and e is the place after it
-pub record Put (t : List ℕ) (p : ℕ) (w t′ : List ℕ) (e : ℕ) : Type 0 where
-  pub end : e ≡ p + length w
-  pub bytes : t′ ≡ splice p w t
 
 -- what stands before the word in a line of the listing: the record's number
 unfoldable pub front : Bool → ℕ → List ℕ

@@ -1,6 +1,6 @@
 -- The text form of an itinerary: one line a record, indented by two spaces for each record above it.
-use Prim.Native.Nat.{_*_, _+_, suc, zero, ℕ}
-use lib.ListN.{drop, length, replicate, take}
+use Prim.Native.Nat.{_*_, suc, zero, ℕ}
+use lib.ListN.{replicate}
 use mathlib.Core.List.{List, [], _++_, _∷_}
 use Rattle.model.specs.Listing.{digitsIn, field}
 use Rattle.textform.specs.declared.Line.{Line}
@@ -47,11 +47,3 @@ lineBytes l = entry [] [] l
 unfoldable pub render : List Line → List ℕ
 render [] = []
 render (l ∷ ls) = lineBytes l ++ render ls
-
--- the bytes t with w put at a place
-unfoldable pub splice : ℕ → List ℕ → List ℕ → List ℕ
-splice at w t = take at t ++ (w ++ drop (at + length w) t)
-
--- the first bytes of t written with w, "the rest as it was"
-unfoldable pub over : List ℕ → List ℕ → List ℕ
-over w t = w ++ drop (length w) t

@@ -8,7 +8,8 @@ use mathlib.Core.Option.{Option, none, some}
 use Rattle.model.specs.Records.{byte, encode}
 use Rattle.model.specs.Validity.{labelIn}
 use Rattle.model.specs.declared.Rec.{Rec}
-use Rattle.textform.specs.Lines.{ambientWord, inWord, openWord, outWord, over}
+use Rattle.text_put.specs.Puts.{over}
+use Rattle.textform.specs.Lines.{ambientWord, inWord, openWord, outWord}
 use Rattle.textform.specs.declared.Line.{Line}
 use Rattle.textform.specs.declared.LineRead.{LineRead}
 use Rattle.textform.specs.declared.LineRead.the-variants.{Bad, Good}

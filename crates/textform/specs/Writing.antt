@@ -1,5 +1,5 @@
 -- Writing the text form: the records that aren't gone, depth first, the children of one parent by their numbers.
-use Prim.Native.Nat.{_+_, _-_, suc, zero, ℕ}
+use Prim.Native.Nat.{_-_, suc, zero, ℕ}
 use lib.Dec.{eqb, leb}
 use lib.ListN.{length}
 use mathlib.Core.Bool.{Bool, _&&_, false, true}
@@ -13,7 +13,8 @@ use Rattle.model.specs.Refusals.{Check, andThen, content, need, pass, refuse}
 use Rattle.model.specs.Tables.{suspects, tableRight}
 use Rattle.model.specs.Validity.{validity}
 use Rattle.model.specs.declared.Rec.{Rec}
-use Rattle.textform.specs.Lines.{entry, hiddenWord, over, render}
+use Rattle.text_put.specs.Puts.{over}
+use Rattle.textform.specs.Lines.{entry, hiddenWord, render}
 use Rattle.textform.specs.declared.Line.{Line}
 use Rattle.textform.specs.declared.TextWritten.{TextWritten}
 use Rattle.textform.specs.declared.TextWritten.the-variants.{Length, NoRoom, Refused}

@@ -8,29 +8,11 @@ use textform::Visit;
 ghost use mathlib.Core.Path.{_≡_};
 ghost use Prim.Native.Nat.{_+_, _≤_};
 ghost use lib.ListN.{length, replicate};
-ghost use mathlib.Core.List.{[], _∷_};
-ghost use Rattle.model.specs.Listing.{digitsIn};
 ghost use Rattle.model.specs.Records.{records};
-ghost use Rattle.textform.specs.Lines.{entry, kindWord, over};
-ghost use Rattle.textform.specs.Inner.{Whole, Put, Written, fields, front, visitLine, wholeText};
+ghost use Rattle.text_put.specs.Puts.{Put, over};
+ghost use Rattle.textform.specs.Lines.{entry, kindWord};
+ghost use Rattle.textform.specs.Inner.{Whole, Written, fields, front, visitLine, wholeText};
 ghost use Rattle.textform.specs.Writing.{childAfter, listAfter, listAnswer, mark, nextFrom, writeAfter, writeAnswer};
-
-// Puts bytes at a place, and answers the place after them; inner.
-fn put(text: &mut [u8], at: usize, word: &[u8]) -> usize
-    requires { ⌜ at + length (now word) ≤ length (now text) ⌝ }
-    ensures { λ r. ⌜ Put (now (text .entry)) at (now (word .entry)) (now (text .exit)) r ⌝ }
-{
-    at + bytes::copy(word, &mut text[at..])
-}
-
-// Puts one byte; inner.
-fn put_byte(text: &mut [u8], at: usize, b: u8) -> usize
-    requires { ⌜ at + 1 ≤ length (now text) ⌝ }
-    ensures { λ r. ⌜ Put (now (text .entry)) at (b ∷ []) (now (text .exit)) r ⌝ }
-{
-    text[at] = b;
-    at + 1
-}
 
 // Puts n spaces; inner.
 fn put_spaces(text: &mut [u8], at: usize, n: usize) -> usize
@@ -45,34 +27,22 @@ fn put_spaces(text: &mut [u8], at: usize, n: usize) -> usize
     at + n
 }
 
-// Puts a number's digits; inner.
-fn put_number(text: &mut [u8], at: usize, n: u16) -> usize
-    requires { ⌜ at + length (digitsIn 5 n) ≤ length (now text) ⌝ }
-    ensures { λ r. ⌜ Put (now (text .entry)) at (digitsIn 5 n) (now (text .exit)) r ⌝ }
-{
-    if n <= 9 {
-        return put_byte(text, at, (48 + n) as u8);
-    }
-    let last = put_number(text, at, n / 10);
-    put_byte(text, last, (48 + n % 10) as u8)
-}
-
 // Puts a kind's word; inner.
 fn put_kind(text: &mut [u8], at: usize, kind: u8) -> usize
     requires { ⌜ at + length (kindWord kind) ≤ length (now text) ⌝ }
     ensures { λ r. ⌜ Put (now (text .entry)) at (kindWord kind) (now (text .exit)) r ⌝ }
 {
     if kind == 1 {
-        return put(text, at, b"ambient ");
+        return text_put::put(text, at, b"ambient ");
     }
     if kind == 2 {
-        return put(text, at, b"in ");
+        return text_put::put(text, at, b"in ");
     }
     if kind == 3 {
-        return put(text, at, b"out ");
+        return text_put::put(text, at, b"out ");
     }
     if kind == 4 {
-        return put(text, at, b"open ");
+        return text_put::put(text, at, b"open ");
     }
     at
 }
@@ -83,8 +53,8 @@ fn put_front(text: &mut [u8], at: usize, listed: bool, number: u16) -> usize
     ensures { λ r. ⌜ Put (now (text .entry)) at (front listed number) (now (text .exit)) r ⌝ }
 {
     if listed {
-        let end = put_number(text, at, number);
-        return put_byte(text, end, 32);
+        let end = text_put::put_number(text, at, number);
+        return text_put::put_byte(text, end, 32);
     }
     at
 }
@@ -95,9 +65,9 @@ fn put_fields(text: &mut [u8], at: usize, line: Line) -> usize
     ensures { λ r. ⌜ Put (now (text .entry)) at (fields line) (now (text .exit)) r ⌝ }
 {
     let label = put_kind(text, at, line.kind);
-    let space = put_number(text, label, line.label as u16);
-    let name = put_byte(text, space, 32);
-    put_number(text, name, line.name as u16)
+    let space = text_put::put_number(text, label, line.label as u16);
+    let name = text_put::put_byte(text, space, 32);
+    text_put::put_number(text, name, line.name as u16)
 }
 
 // Puts the mark of a hidden record; inner.
@@ -106,7 +76,7 @@ fn put_mark(text: &mut [u8], at: usize, hidden: bool) -> usize
     ensures { λ r. ⌜ Put (now (text .entry)) at (mark hidden) (now (text .exit)) r ⌝ }
 {
     if hidden {
-        return put(text, at, b" hidden");
+        return text_put::put(text, at, b" hidden");
     }
     at
 }
@@ -128,7 +98,7 @@ fn put_entry(
     let word = put_front(text, first, listed, number);
     let back = put_fields(text, word, line);
     let end = put_mark(text, back, hidden);
-    put_byte(text, end, 10)
+    text_put::put_byte(text, end, 10)
 }
 
 // The lowest child of p with a number over after, 0 where there is none; inner.

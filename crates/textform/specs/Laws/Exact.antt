@@ -6,7 +6,6 @@ use lib.ListN.{drop, length, length-drop, replicate}
 use lib.Seq.{drop-cons, drop-drop}
 use mathlib.Core.Bool.{Bool, false, true, true≢false}
 use mathlib.Core.List.{List, [], _++_, _∷_}
-use mathlib.Core.Logic.{_≢_}
 use mathlib.Core.Option.{none, some}
 use mathlib.Core.Path.{_∙_, _≡_, ap, refl, sym}
 use native.Mathlib.Omega.{arith}
@@ -15,7 +14,8 @@ use Rattle.model.specs.Laws.WellFormed.{and-right}
 use Rattle.model.specs.Listing.{digitsIn}
 use Rattle.model.specs.Records.{byte, encode, records}
 use Rattle.model.specs.Validity.{labelIn}
-use Rattle.textform.specs.Laws.Lines.{demand-good, digits-1, digits-2, digits-3, ended-good, line-parts, named-good, number-some, scan-bad, scan-good, scan-nested, tailBytes, worded-by, worded-good}
+use Rattle.textform.specs.Laws.Lines.{demand-good, digits-2, digits-3, ended-good, line-parts, named-good, number-some, scan-bad, scan-good, scan-nested, tailBytes, worded-by, worded-good}
+use Rattle.text_put.specs.Digits.{digits-1}
 use Rattle.textform.specs.Laws.Nesting.{walk-placed}
 use Rattle.textform.specs.Laws.Scanning.{digit-inside, digit-low, numeral-cases}
 use Rattle.textform.specs.Lines.{kindWord, lineBytes, render}

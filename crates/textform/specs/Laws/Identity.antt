@@ -22,9 +22,10 @@ use Rattle.model.specs.Refusals.{content, pass}
 use Rattle.model.specs.Validity.{kindRight, labelBy, labelRight, nameBy, nameRight, validity}
 use Rattle.model.specs.declared.Rec.{Rec}
 use Rattle.itinerary.specs.Laws.{valid-few}
+use Rattle.text_put.specs.Puts.{over}
 use Rattle.textform.specs.Laws.Lines.{scan-nested, scan-render}
 use Rattle.textform.specs.Laws.Nesting.{Nested, Right, cons, length-placed, nil, none-zero, walk-next, walk-placed}
-use Rattle.textform.specs.Lines.{over, render}
+use Rattle.textform.specs.Lines.{render}
 use Rattle.textform.specs.Reading.{bytesOf, lengthTold, linesAnswer, noneAbove, placed, placedFrom, readAfter, readAnswer, readBy, readInto, recordOf, roomIn, scan, scanAnswer}
 use Rattle.textform.specs.Writing.{childAfter, childOr, fits, isChild, lineAt, nextFrom, orZero, overIf, textOf, told, toldAfter, walk, walkFrom, writeAfter, writeAnswer}
 use Rattle.textform.specs.declared.Line.{Line}

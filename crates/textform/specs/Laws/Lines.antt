@@ -1,6 +1,6 @@
 -- A line that is written is read back, and what a line that is read has.
 use Prim.Native.Nat.{_%_, _*_, _+_, _-_, _/_, _<_, _≤_, suc, zero, ℕ}
-use borrow.Author.Tests.{eq-eqb, le-leb, leb-true, lt-leb, ne-eqb}
+use borrow.Author.Tests.{eq-eqb, le-leb, leb-true, ne-eqb}
 use lib.Dec.{eqb, leb}
 use lib.ListN.{drop, length, length-append, length-drop, length-replicate, replicate}
 use lib.Seq.{drop-append-seam, drop-at, getD-append-seam}
@@ -15,6 +15,7 @@ use Rattle.model.specs.Laws.WellFormed.{label-in}
 use Rattle.model.specs.Listing.{digitsIn, field}
 use Rattle.model.specs.Records.{byte}
 use Rattle.model.specs.Validity.{labelIn}
+use Rattle.text_put.specs.Digits.{digits-1, digits-high, digits-low}
 use Rattle.textform.specs.Laws.Nesting.{Nested, Right, cons, nil}
 use Rattle.textform.specs.Lines.{ambientWord, entry, inWord, indent, kindWord, lineBytes, openWord, outWord, render}
 use Rattle.textform.specs.Reading.{before, causeAt, demand, digit, ended, labelled, leading, lineRead, markBytes, named, numberCause, numeral, numeralOf, scanFrom, spaces, starts, unknownKind, unworded, worded}
@@ -24,17 +25,6 @@ use Rattle.textform.specs.declared.LineRead.the-variants.{Bad, Good}
 use Rattle.textform.specs.declared.Decimal.{Decimal}
 
 -- the digits of a number, by how many there are
-pub digits-low : (k n : ℕ) → n ≤ 9 → digitsIn (suc k) n ≡ (48 + n) ∷ []
-unfolding digitsIn
-digits-low k n h = rw (le-leb n 9 h, digitsIn)
-
-pub digits-high : (k n : ℕ) → 9 < n → digitsIn (suc k) n ≡ digitsIn k (n / 10) ++ ((48 + n % 10) ∷ [])
-unfolding digitsIn
-digits-high k n h = rw (lt-leb n 9 h, digitsIn)
-
-pub digits-1 : (n : ℕ) → n ≤ 9 → digitsIn 5 n ≡ (48 + n) ∷ []
-digits-1 n h = digits-low 4 n h
-
 pub digits-2 : (n : ℕ) → 9 < n → n ≤ 99 → digitsIn 5 n ≡ (48 + n / 10) ∷ (48 + n % 10) ∷ []
 digits-2 n l h = digits-high 4 n l ∙ ap (λ x. x ++ ((48 + n % 10) ∷ [])) (digits-low 3 (n / 10) (omega arith))
 

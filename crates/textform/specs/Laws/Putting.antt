@@ -1,72 +1,18 @@
 -- Bytes put at a place.
-use Prim.Native.Nat.{_%_, _*_, _+_, _-_, _/_, _<_, _≤_, suc, zero, ℕ}
-use lib.ListN.{drop, drop-of-length-le, length, length-append, length-drop, length-replicate, replicate, replicate-append-replicate, set, take, take-append-drop}
-use lib.Seq.{drop-append-add, drop-drop, length-take-le, set-split, take-all, take-at}
-use mathlib.Core.List.{List, [], _++_, _∷_, append-assoc, append-nil}
+use Prim.Native.Nat.{_*_, _+_, _<_, _≤_, suc, zero, ℕ}
+use lib.ListN.{length, length-append, length-replicate, replicate, replicate-append-replicate, set}
+use mathlib.Core.List.{List, [], _++_, _∷_, append-assoc}
 use mathlib.Core.Logic.{_≢_}
 use mathlib.Core.Bool.{Bool, false, true}
 use mathlib.Core.Path.{_∙_, _≡_, ap, refl, sym}
-use native.Mathlib.Decide.{decLe}
-use native.Mathlib.Numerals.{add-one}
 use native.Mathlib.Omega.{arith}
 use Rattle.model.specs.Listing.{digitsIn, field}
-use Rattle.textform.specs.Laws.Lines.{digits-high, digits-low}
-use Rattle.textform.specs.Lines.{ambientWord, entry, hiddenWord, inWord, indent, kindWord, openWord, outWord, over, splice}
-use Rattle.textform.specs.Inner.{Put, fields, front}
+use Rattle.text_put.specs.Puts.{Put, splice}
+use Rattle.text_put.specs.Laws.{put-as, put-then, splice-byte, splice-splice}
+use Rattle.textform.specs.Lines.{ambientWord, entry, hiddenWord, inWord, indent, kindWord, openWord, outWord}
+use Rattle.textform.specs.Inner.{fields, front}
 use Rattle.textform.specs.Writing.{mark}
 use Rattle.textform.specs.declared.Line.{Line}
-
-module _ (t : List ℕ) (p : ℕ) (w : List ℕ) where
-  -- bytes put after bytes that were put
-  pub splice-splice : (v : List ℕ) (q : ℕ) → q ≡ p + length w → q + length v ≤ length t → splice q v (splice p w t) ≡ splice p (w ++ v) t
-  unfolding splice
-  splice-splice v q e h =
-      let a : length (take p t ++ w) ≡ q = length-append (take p t) w ∙ omega (arith, length-take-le p t (omega arith)) in
-      let b : q + length v ≡ length (take p t ++ w) + length v = omega arith in
-      let c : p + length w + length v ≡ p + length (w ++ v) = omega (arith, length-append w v) in
-      rw (sym (append-assoc (take p t) w (drop (p + length w) t)))
-      (rw (take-at (take p t ++ w) (drop (p + length w) t) q a, b, drop-append-add (take p t ++ w) (drop (p + length w) t) (length v), drop-drop (length v) (p + length w) t, c)
-      (simp append-assoc))
-
--- the bytes w copied to the start of the part of t from p on
-pub put-copied : (t : List ℕ) (p : ℕ) (w : List ℕ) {n : ℕ} {u : List ℕ} → n ≡ length w → u ≡ take (length w) w ++ drop (length w) (take (length t - p) (drop p t)) →
-    Put t p w (take p t ++ (u ++ drop (length t - p) (drop p t))) (p + n)
-unfolding splice
-put-copied t p w {n} {u} e q =
-    let l : length (drop p t) ≤ length t - p = omega (arith, length-drop p t) in
-    let v : u ≡ w ++ drop (p + length w) t = q ∙ rw (take-all (length w) w (omega arith), take-all (length t - p) (drop p t) l, drop-drop (length w) p t) in
-    record { end = ap (λ k. p + k) e; bytes = rw (drop-of-length-le (drop p t) l) (ap (λ x. take p t ++ x) (append-nil u ∙ v)) }
-
--- nothing put
-pub splice-nil : (p : ℕ) (t : List ℕ) → t ≡ splice p [] t
-unfolding splice
-splice-nil p t = let e : p + 0 ≡ p = omega arith in rw e (sym (take-append-drop p t))
-
--- put at the start
-pub splice-over : (w t : List ℕ) → splice 0 w t ≡ over w t
-unfolding splice over
-splice-over w t = let e : 0 + length w ≡ length w = omega arith in rw e
-
--- one byte
-pub splice-byte : (t : List ℕ) (p b : ℕ) → p < length t → set t p b ≡ splice p (b ∷ []) t
-unfolding splice
-splice-byte t p b h = set-split t p b h ∙ rw (add-one p)
-
-pub put-nil : (t : List ℕ) (p : ℕ) → Put t p [] t p
-put-nil t p = record { end = omega arith; bytes = splice-nil p t }
-
-pub put-one : (t : List ℕ) (p b : ℕ) → p + 1 ≤ length t → Put t p (b ∷ []) (set t p b) (p + 1)
-put-one t p b h = record { end = refl; bytes = splice-byte t p b (omega arith) }
-
-pub put-as : {t w v t′ : List ℕ} {p e : ℕ} → w ≡ v → Put t p w t′ e → Put t p v t′ e
-put-as q x = rw (← q) x
-
--- one after the other
-pub put-then : {t w t₁ v t₂ : List ℕ} {p e₁ e₂ : ℕ} → Put t p w t₁ e₁ → Put t₁ e₁ v t₂ e₂ → e₂ ≤ length t → Put t p (w ++ v) t₂ e₂
-put-then {t} {w} {t₁} {v} {t₂} {p} {e₁} {e₂} x y h = record {
-  end = omega (arith, x .end, y .end, length-append w v);
-  bytes = y .bytes ∙ ap (splice e₁ v) (x .bytes) ∙ splice-splice t p w v e₁ (x .end) (omega (arith, y .end));
-}
 
 -- a loop that puts spaces
 pub spaces-next : (t t′ : List ℕ) (p i : ℕ) → p + i < length t → length t′ ≡ length t → t′ ≡ splice p (replicate i 32) t → set t′ (p + i) 32 ≡ splice p (replicate (i + 1) 32) t
@@ -75,26 +21,6 @@ spaces-next t t′ p i h l e =
     ∙ ap (splice (p + i) (32 ∷ [])) e
     ∙ splice-splice t p (replicate i 32) (32 ∷ []) (p + i) (ap (λ n. p + n) (sym (length-replicate i 32))) (omega arith)
     ∙ ap (λ x. splice p x t) (replicate-append-replicate i 1 32)
-
--- where there is room for one digit more, the digits are the same
-wider-by : (k n : ℕ) → Dec (n ≤ 9) → (9 < n → digitsIn k (n / 10) ≡ digitsIn (suc k) (n / 10)) → digitsIn (suc k) n ≡ digitsIn (suc (suc k)) n
-wider-by k n (yes l) e = digits-low k n l ∙ sym (digits-low (suc k) n l)
-wider-by k n (no l) e = digits-high k n (omega arith) ∙ ap (λ x. x ++ ((48 + n % 10) ∷ [])) (e (omega arith)) ∙ sym (digits-high (suc k) n (omega arith))
-
-wider-1 : (n : ℕ) → n ≤ 9 → digitsIn 1 n ≡ digitsIn 2 n
-wider-1 n h = wider-by 0 n (yes h) (λ l. absurd (omega arith))
-
-wider-2 : (n : ℕ) → n ≤ 99 → digitsIn 2 n ≡ digitsIn 3 n
-wider-2 n h = wider-by 1 n (decLe n 9) (λ l. wider-1 (n / 10) (omega arith))
-
-wider-3 : (n : ℕ) → n ≤ 999 → digitsIn 3 n ≡ digitsIn 4 n
-wider-3 n h = wider-by 2 n (decLe n 9) (λ l. wider-2 (n / 10) (omega arith))
-
-wider-4 : (n : ℕ) → n ≤ 9999 → digitsIn 4 n ≡ digitsIn 5 n
-wider-4 n h = wider-by 3 n (decLe n 9) (λ l. wider-3 (n / 10) (omega arith))
-
-pub digits-next : (n : ℕ) → 9 < n → n < 65536 → digitsIn 5 n ≡ digitsIn 5 (n / 10) ++ ((48 + n % 10) ∷ [])
-digits-next n l h = digits-high 4 n l ∙ ap (λ x. x ++ ((48 + n % 10) ∷ [])) (wider-4 (n / 10) (omega arith))
 
 pub kind-1 : (k : ℕ) → k ≡ 1 → kindWord k ≡ ambientWord
 unfolding kindWord

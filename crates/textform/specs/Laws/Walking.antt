@@ -7,23 +7,24 @@ use mathlib.Core.Bool.{Bool, _&&_, false, true}
 use mathlib.Core.List.{List, [], _++_, _∷_, map}
 use mathlib.Core.Logic.{_≢_}
 use mathlib.Core.Path.{_∙_, _≡_, ap, refl, sym}
-use native.Mathlib.Decide.{decLe}
 use native.Mathlib.Omega.{arith}
 use Rattle.itinerary.specs.Laws.{valid-few, valid-whole}
 use Rattle.model.specs.Finite.{lowest, unequal}
 use Rattle.model.specs.Laws.Bytes.{at-whole, length-records}
-use Rattle.model.specs.Listing.{digitsIn, field}
+use Rattle.model.specs.Listing.{field}
 use Rattle.model.specs.Records.{at, count, decode, records}
 use Rattle.model.specs.Refusals.{content, pass, refuse}
 use Rattle.model.specs.Validity.{validity}
 use Rattle.model.specs.declared.Rec.{Rec}
 use Rattle.model.specs.declared.Refusal.{Refusal}
+use Rattle.text_put.specs.Puts.{Put, over, splice}
+use Rattle.text_put.specs.Digits.{digits-few}
+use Rattle.text_put.specs.Laws.{splice-nil, splice-over, splice-splice}
 use Rattle.textform.specs.Laws.Identity.{next-visited, walk-end}
-use Rattle.textform.specs.Laws.Lines.{digits-high, digits-low}
 use Rattle.textform.specs.Laws.Nesting.{walk-next}
-use Rattle.textform.specs.Laws.Putting.{entry-length, fields-length, splice-nil, splice-over, splice-splice}
-use Rattle.textform.specs.Lines.{ambientWord, entry, hiddenWord, inWord, kindWord, lineBytes, openWord, outWord, over, render, splice}
-use Rattle.textform.specs.Inner.{Whole, Put, Written, front, visitLine}
+use Rattle.textform.specs.Laws.Putting.{entry-length, fields-length}
+use Rattle.textform.specs.Lines.{ambientWord, entry, hiddenWord, inWord, kindWord, lineBytes, openWord, outWord, render}
+use Rattle.textform.specs.Inner.{Whole, Written, front, visitLine}
 use Rattle.textform.specs.Writing.{childAfter, childOr, fits, isChild, lineAt, linesOf, mark, nextFrom, orZero, overIf, textOf, told, toldAfter, walk, walkFrom, writeAfter, writeAnswer}
 use Rattle.textform.specs.declared.TextWritten.{TextWritten}
 use Rattle.textform.specs.declared.TextWritten.the-variants.{Length, NoRoom, Refused}
@@ -108,15 +109,6 @@ unfolding walkFrom
 walk-none its left p d l = let u : left ≡ 0 = omega arith in rw u
 
 -- no line is long
-digits-few : (k n : ℕ) → length (digitsIn k n) ≤ k
-unfolding digitsIn
-digits-few zero n = omega arith
-digits-few (suc k) n = go (decLe n 9) (digits-few k (n / 10))
-  where
-    go : Dec (n ≤ 9) → length (digitsIn k (n / 10)) ≤ k → length (digitsIn (suc k) n) ≤ suc k
-    go (yes l) ih = rw (digits-low k n l) (omega arith)
-    go (no l) ih = rw (digits-high k n (omega arith), length-append) (omega arith)
-
 word-short : (k : ℕ) → length (kindWord k) ≤ 8
 unfolding kindWord ambientWord inWord outWord openWord
 word-short zero = omega arith

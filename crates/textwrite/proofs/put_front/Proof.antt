@@ -2,7 +2,8 @@
 use borrow.Author.Needs.{needs}
 use mathlib.Core.Path.{sym}
 use native.Mathlib.Omega.{arith}
-use Rattle.textform.specs.Laws.Putting.{front-is, front-length, front-not, put-as, put-nil, put-then}
+use Rattle.text_put.specs.Laws.{put-as, put-nil, put-then}
+use Rattle.textform.specs.Laws.Putting.{front-is, front-length, front-not}
 use Rattle.textwrite.proofs.put_front.Statement.{statement}
 use Rattle.textwrite.proofs.put_front.Tie as tie
 

@@ -3,7 +3,8 @@ use borrow.Author.Needs.{needs}
 use lib.ListN.{length}
 use mathlib.Core.Path.{ap, sym}
 use native.Mathlib.Omega.{arith}
-use Rattle.textform.specs.Laws.Putting.{kind-1, kind-2, kind-3, kind-4, kind-none, put-as, put-nil}
+use Rattle.text_put.specs.Laws.{put-as, put-nil}
+use Rattle.textform.specs.Laws.Putting.{kind-1, kind-2, kind-3, kind-4, kind-none}
 use Rattle.textform.specs.Lines.{ambientWord, inWord, openWord, outWord}
 use Rattle.textwrite.proofs.put_kind.Statement.{statement}
 use Rattle.textwrite.proofs.put_kind.Tie as tie

@@ -3,7 +3,8 @@ use borrow.Author.Needs.{needs}
 use lib.ListN.{length}
 use mathlib.Core.Path.{ap, sym}
 use native.Mathlib.Omega.{arith}
-use Rattle.textform.specs.Laws.Putting.{mark-is, mark-not, put-as, put-nil}
+use Rattle.text_put.specs.Laws.{put-as, put-nil}
+use Rattle.textform.specs.Laws.Putting.{mark-is, mark-not}
 use Rattle.textform.specs.Lines.{hiddenWord}
 use Rattle.textwrite.proofs.put_mark.Statement.{statement}
 use Rattle.textwrite.proofs.put_mark.Tie as tie

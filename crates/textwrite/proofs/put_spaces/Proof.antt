@@ -3,8 +3,9 @@ use Prim.Native.Nat.{_-_, _≤_}
 use lib.ListN.{length, length-set, replicate}
 use mathlib.Core.Path.{_≡_, refl}
 use native.Mathlib.Omega.{arith}
-use Rattle.textform.specs.Laws.Putting.{spaces-done, spaces-next, splice-nil}
-use Rattle.textform.specs.Lines.{splice}
+use Rattle.text_put.specs.Puts.{splice}
+use Rattle.text_put.specs.Laws.{splice-nil}
+use Rattle.textform.specs.Laws.Putting.{spaces-done, spaces-next}
 use Rattle.textwrite.proofs.put_spaces.Statement.{statement}
 use Rattle.textwrite.proofs.put_spaces.Tie as tie
 

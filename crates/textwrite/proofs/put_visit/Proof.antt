@@ -4,7 +4,7 @@ use lib.ListN.{length}
 use mathlib.Core.Path.{ap}
 use native.Mathlib.Omega.{arith}
 use Rattle.model.specs.Records.{records}
-use Rattle.textform.specs.Laws.Putting.{put-as}
+use Rattle.text_put.specs.Laws.{put-as}
 use Rattle.textform.specs.Laws.Walking.{at-is, visit-is}
 use Rattle.textwrite.proofs.put_visit.Statement.{statement}
 use Rattle.textwrite.proofs.put_visit.Tie as tie

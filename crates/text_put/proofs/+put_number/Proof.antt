@@ -1,4 +1,4 @@
--- `textwrite::put_number` meets its contract. What falls at each call is the number.
+-- `text_put::put_number` meets its contract. What falls at each call is the number.
 use Prim.Native.Nat.{ℕ, _<_, _+_, _/_, _%_}
 use borrow.Author.Needs.{needs}
 use lib.ListN.{length, length-append}
@@ -6,16 +6,16 @@ use mathlib.Core.List.{[], _∷_}
 use mathlib.Core.Path.{ap, sym}
 use native.Mathlib.Omega.{arith}
 use Rattle.model.specs.Listing.{digitsIn}
-use Rattle.textform.specs.Laws.Lines.{digits-1}
-use Rattle.textform.specs.Laws.Putting.{digits-next, put-as, put-then}
+use Rattle.text_put.specs.Digits.{digits-1, digits-next}
+use Rattle.text_put.specs.Laws.{put-as, put-then}
 use borrow.Fn.Kinds.{In}
 use borrow.Fn.PlainCycle.{Measures, is, falls, and}
-use Rattle.textwrite.proofs.put_number.Reads as put-number
-use Rattle.textwrite.proofs.put_number.Kinds as put-number-kinds
-use Rattle.textwrite.proofs.+put_number.Lts-put_number as put-number-lts
-use Rattle.textwrite.proofs.put_byte.Reads as put-byte-reads
-use Rattle.textwrite.proofs.+put_number.{statement}
-use Rattle.textwrite.proofs.+put_number.Tie.{close}
+use Rattle.text_put.proofs.put_number.Reads as put-number
+use Rattle.text_put.proofs.put_number.Kinds as put-number-kinds
+use Rattle.text_put.proofs.+put_number.Lts-put_number as put-number-lts
+use Rattle.text_put.proofs.put_byte.Reads as put-byte-reads
+use Rattle.text_put.proofs.+put_number.{statement}
+use Rattle.text_put.proofs.+put_number.Tie.{close}
 
 abbrev μ-put-number : Measures 1 put-number-kinds.ps ℕ
 μ-put-number κs a = a .1 .1 .0

@@ -1,8 +1,8 @@
--- `textwrite::put` meets its contract.
+-- `text_put::put` meets its contract.
 use borrow.Author.Needs.{needs}
-use Rattle.textform.specs.Laws.Putting.{put-copied}
-use Rattle.textwrite.proofs.put.Statement.{statement}
-use Rattle.textwrite.proofs.put.Tie as tie
+use Rattle.text_put.specs.Laws.{put-copied}
+use Rattle.text_put.proofs.put.Statement.{statement}
+use Rattle.text_put.proofs.put.Tie as tie
 
 sub-copy : tie.Need-sub-copy
 sub-copy c = search needs

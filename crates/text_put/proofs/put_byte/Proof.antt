@@ -1,8 +1,8 @@
--- `textwrite::put_byte` meets its contract.
+-- `text_put::put_byte` meets its contract.
 use borrow.Author.Needs.{needs}
-use Rattle.textform.specs.Laws.Putting.{put-one}
-use Rattle.textwrite.proofs.put_byte.Statement.{statement}
-use Rattle.textwrite.proofs.put_byte.Tie as tie
+use Rattle.text_put.specs.Laws.{put-one}
+use Rattle.text_put.proofs.put_byte.Statement.{statement}
+use Rattle.text_put.proofs.put_byte.Tie as tie
 
 slice-write-text : tie.Need-slice-write-text
 slice-write-text c = search needs
