@@ -6,7 +6,9 @@ use mathlib.Core.List.{List, [], _++_, _∷_, append-assoc, append-nil}
 use mathlib.Core.Path.{_∙_, _≡_, ap, refl, sym}
 use native.Mathlib.Numerals.{add-one}
 use native.Mathlib.Omega.{arith}
-use Rattle.text_put.specs.Puts.{Put, over, splice}
+use Rattle.model.specs.Listing.{digitsIn, field, lastField}
+use Rattle.text_put.specs.Digits.{digits-few}
+use Rattle.text_put.specs.Puts.{Put, Putting, over, splice}
 
 module _ (t : List ℕ) (p : ℕ) (w : List ℕ) where
   -- bytes put after bytes that were put
@@ -59,3 +61,69 @@ put-then {t} {w} {t₁} {v} {t₂} {p} {e₁} {e₂} x y h = record {
   end = omega (arith, x .end, y .end, length-append w v);
   bytes = y .bytes ∙ ap (splice e₁ v) (x .bytes) ∙ splice-splice t p w v e₁ (x .end) (omega (arith, y .end));
 }
+
+-- what is put at the start, and the rest of the text
+pub put-over : {t w t′ : List ℕ} {e : ℕ} → Put t 0 w t′ e → (e ≡ length w) × (t′ ≡ over w t)
+put-over {t} {w} x = (omega (arith, x .end), x .bytes ∙ splice-over w t)
+
+-- bytes put one part after the other: nothing yet, one part more, all
+pub putting-start : (t : List ℕ) (p : ℕ) (w : List ℕ) → p + length w ≤ length t → Putting t p w t p w
+putting-start t p w h = record { end = refl; room = h; sized = refl; bytes = refl }
+
+pub putting-on : {t₀ w t rest v t′ next : List ℕ} {p q q′ : ℕ} → Putting t₀ p w t q rest → rest ≡ v ++ next → length t′ ≡ length t → Put t q v t′ q′ → Putting t₀ p w t′ q′ next
+putting-on {t = t} {v = v} {next = next} {q = q} {q′ = q′} x e k y =
+    let l : q′ + length next ≡ q + length (v ++ next) = omega (arith, y .end, length-append v next) in
+    let m = ap length e in
+    record {
+      end = omega (arith, x .end);
+      room = omega (arith, x .room);
+      sized = k ∙ x .sized;
+      bytes = ap (splice q′ next) (y .bytes) ∙ splice-splice t q v next q′ (y .end) (omega (arith, x .room)) ∙ ap (λ u. splice q u t) (sym e) ∙ x .bytes;
+    }
+
+pub putting-end : {t₀ w t rest : List ℕ} {p q : ℕ} → Putting t₀ p w t q rest → rest ≡ [] → Put t₀ p w t q
+putting-end {t = t} {q = q} x e =
+    let m = ap length e in
+    record { end = omega (arith, x .end); bytes = splice-nil q t ∙ ap (λ u. splice q u t) (sym e) ∙ x .bytes }
+
+-- a field and what follows it
+pub field-then : (n : ℕ) (v : List ℕ) → field n [] ++ v ≡ field n v
+unfolding field
+field-then n v = append-assoc (digitsIn 5 n) (32 ∷ []) v
+
+pub last-then : (n : ℕ) (v : List ℕ) → lastField n [] ++ v ≡ lastField n v
+unfolding lastField
+last-then n v = append-assoc (digitsIn 5 n) (10 ∷ []) v
+
+pub field-length : (n : ℕ) (v : List ℕ) → length (field n v) ≡ length (digitsIn 5 n) + (1 + length v)
+unfolding field
+field-length n v = length-append (digitsIn 5 n) (32 ∷ v) ∙ omega arith
+
+pub last-length : (n : ℕ) (v : List ℕ) → length (lastField n v) ≡ length (digitsIn 5 n) + (1 + length v)
+unfolding lastField
+last-length n v = length-append (digitsIn 5 n) (10 ∷ v) ∙ omega arith
+
+-- no field is longer than five digits and the byte after them
+pub field-few : (n : ℕ) → length (field n []) ≤ 6
+field-few n = omega (arith, field-length n [], digits-few 5 n)
+
+pub last-few : (n : ℕ) → length (lastField n []) ≤ 6
+last-few n = omega (arith, last-length n [], digits-few 5 n)
+
+-- a number's digits and the byte after them
+pub field-put : (n : ℕ) {t t₁ t₂ : List ℕ} {p e₁ e₂ : ℕ} → p + length (field n []) ≤ length t → Put t p (digitsIn 5 n) t₁ e₁ → Put t₁ e₁ (32 ∷ []) t₂ e₂ → Put t p (field n []) t₂ e₂
+unfolding field
+field-put n h x y = put-then x y (omega (arith, length-append (digitsIn 5 n) (32 ∷ []), x .end, y .end))
+
+pub last-put : (n : ℕ) {t t₁ t₂ : List ℕ} {p e₁ e₂ : ℕ} → p + length (lastField n []) ≤ length t → Put t p (digitsIn 5 n) t₁ e₁ → Put t₁ e₁ (10 ∷ []) t₂ e₂ → Put t p (lastField n []) t₂ e₂
+unfolding lastField
+last-put n h x y = put-then x y (omega (arith, length-append (digitsIn 5 n) (10 ∷ []), x .end, y .end))
+
+-- a word, a number and a record put one after the other
+pub refusal-put : (n r : ℕ) {t w t₁ t₂ t₃ : List ℕ} {e₁ e₂ e₃ : ℕ} → length w + 12 ≤ length t →
+    Put t 0 w t₁ e₁ → Put t₁ e₁ (field n []) t₂ e₂ → Put t₂ e₂ (lastField r []) t₃ e₃ → Put t 0 (w ++ field n (lastField r [])) t₃ e₃
+refusal-put n r {w = w} h x y z =
+    let k = field-few n in
+    let l = last-few r in
+    put-as (append-assoc w (field n []) (lastField r []) ∙ ap (λ v. w ++ v) (field-then n (lastField r [])))
+    (put-then (put-then x y (omega (arith, x .end, y .end))) z (omega (arith, x .end, y .end, z .end)))

@@ -1,8 +1,9 @@
-// Bytes and numbers put at a place of a lent text, for the programs' lines.
+// Bytes, numbers and fields put at a place of a lent text, for the programs' lines.
+use model::Refusal;
 ghost use Prim.Native.Nat.{_+_, _≤_};
 ghost use lib.ListN.{length};
-ghost use mathlib.Core.List.{[], _∷_};
-ghost use Rattle.model.specs.Listing.{digitsIn};
+ghost use mathlib.Core.List.{[], _++_, _∷_};
+ghost use Rattle.model.specs.Listing.{digitsIn, field, lastField};
 ghost use Rattle.text_put.specs.Puts.{Put};
 
 // Puts bytes at a place, and answers the place after them; inner.
@@ -32,4 +33,32 @@ pub fn put_number(text: &mut [u8], at: usize, n: u16) -> usize
     }
     let last = put_number(text, at, n / 10);
     put_byte(text, last, (48 + n % 10) as u8)
+}
+
+// Puts a number and the space that parts it from the next field; inner.
+pub fn put_field(text: &mut [u8], at: usize, n: u16) -> usize
+    requires { ⌜ at + length (field n []) ≤ length (now text) ⌝ }
+    ensures { λ r. ⌜ Put (now (text .entry)) at (field n []) (now (text .exit)) r ⌝ }
+{
+    let end = put_number(text, at, n);
+    put_byte(text, end, 32)
+}
+
+// Puts a number and the end of the line; inner.
+pub fn put_last(text: &mut [u8], at: usize, n: u16) -> usize
+    requires { ⌜ at + length (lastField n []) ≤ length (now text) ⌝ }
+    ensures { λ r. ⌜ Put (now (text .entry)) at (lastField n []) (now (text .exit)) r ⌝ }
+{
+    let end = put_number(text, at, n);
+    put_byte(text, end, 10)
+}
+
+// Puts the one line of a refusal at the start: its word, number, record; inner.
+pub fn put_refusal(text: &mut [u8], word: &[u8], r: Refusal) -> usize
+    requires { ⌜ length (now word) + 12 ≤ length (now text) ⌝ }
+    ensures { λ e. ⌜ Put (now (text .entry)) 0 (now (word .entry) ++ field (r .number) (lastField (r .record) [])) (now (text .exit)) e ⌝ }
+{
+    let number = put(text, 0, word);
+    let record = put_field(text, number, r.number as u16);
+    put_last(text, record, r.record)
 }
