@@ -49,3 +49,11 @@ wider-4 n h = wider-by 3 n (decLe n 9) (λ l. wider-3 (n / 10) (omega arith))
 
 pub digits-next : (n : ℕ) → 9 < n → n < 65536 → digitsIn 5 n ≡ digitsIn 5 (n / 10) ++ ((48 + n % 10) ∷ [])
 digits-next n l h = digits-high 4 n l ∙ ap (λ x. x ++ ((48 + n % 10) ∷ [])) (wider-4 (n / 10) (omega arith))
+
+-- a number below a hundred has at most two
+pub digits-two : (n : ℕ) → n ≤ 99 → length (digitsIn 5 n) ≤ 2
+digits-two n h = go (decLe n 9)
+  where
+    go : Dec (n ≤ 9) → length (digitsIn 5 n) ≤ 2
+    go (yes l) = rw (digits-1 n l) (omega arith)
+    go (no l) = rw (digits-high 4 n (omega arith), length-append, digits-low 3 (n / 10) (omega arith)) (omega arith)

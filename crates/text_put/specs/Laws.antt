@@ -81,19 +81,22 @@ putting-on {t = t} {v = v} {next = next} {q = q} {q′ = q′} x e k y =
       bytes = ap (splice q′ next) (y .bytes) ∙ splice-splice t q v next q′ (y .end) (omega (arith, x .room)) ∙ ap (λ u. splice q u t) (sym e) ∙ x .bytes;
     }
 
+pub putting-room : {t₀ w t rest : List ℕ} {p q : ℕ} (v next : List ℕ) → Putting t₀ p w t q rest → rest ≡ v ++ next → q + length v ≤ length t
+putting-room v next x e = omega (arith, x .room, ap length e, length-append v next)
+
 pub putting-end : {t₀ w t rest : List ℕ} {p q : ℕ} → Putting t₀ p w t q rest → rest ≡ [] → Put t₀ p w t q
 putting-end {t = t} {q = q} x e =
     let m = ap length e in
     record { end = omega (arith, x .end); bytes = splice-nil q t ∙ ap (λ u. splice q u t) (sym e) ∙ x .bytes }
 
 -- a field and what follows it
-pub field-then : (n : ℕ) (v : List ℕ) → field n [] ++ v ≡ field n v
+pub field-then : (n : ℕ) (v w : List ℕ) → field n v ++ w ≡ field n (v ++ w)
 unfolding field
-field-then n v = append-assoc (digitsIn 5 n) (32 ∷ []) v
+field-then n v w = append-assoc (digitsIn 5 n) (32 ∷ v) w
 
-pub last-then : (n : ℕ) (v : List ℕ) → lastField n [] ++ v ≡ lastField n v
+pub last-then : (n : ℕ) (v w : List ℕ) → lastField n v ++ w ≡ lastField n (v ++ w)
 unfolding lastField
-last-then n v = append-assoc (digitsIn 5 n) (10 ∷ []) v
+last-then n v w = append-assoc (digitsIn 5 n) (10 ∷ v) w
 
 pub field-length : (n : ℕ) (v : List ℕ) → length (field n v) ≡ length (digitsIn 5 n) + (1 + length v)
 unfolding field
@@ -119,11 +122,14 @@ pub last-put : (n : ℕ) {t t₁ t₂ : List ℕ} {p e₁ e₂ : ℕ} → p + le
 unfolding lastField
 last-put n h x y = put-then x y (omega (arith, length-append (digitsIn 5 n) (10 ∷ []), x .end, y .end))
 
--- a word, a number and a record put one after the other
-pub refusal-put : (n r : ℕ) {t w t₁ t₂ t₃ : List ℕ} {e₁ e₂ e₃ : ℕ} → length w + 12 ≤ length t →
-    Put t 0 w t₁ e₁ → Put t₁ e₁ (field n []) t₂ e₂ → Put t₂ e₂ (lastField r []) t₃ e₃ → Put t 0 (w ++ field n (lastField r [])) t₃ e₃
-refusal-put n r {w = w} h x y z =
+-- a word and two numbers put one after the other
+pub line-put : (n m : ℕ) {t w t₁ t₂ t₃ : List ℕ} {e₁ e₂ e₃ : ℕ} → length w + 12 ≤ length t →
+    Put t 0 w t₁ e₁ → Put t₁ e₁ (field n []) t₂ e₂ → Put t₂ e₂ (lastField m []) t₃ e₃ → Put t 0 (w ++ field n (lastField m [])) t₃ e₃
+line-put n m {w = w} h x y z =
     let k = field-few n in
-    let l = last-few r in
-    put-as (append-assoc w (field n []) (lastField r []) ∙ ap (λ v. w ++ v) (field-then n (lastField r [])))
+    let l = last-few m in
+    put-as (append-assoc w (field n []) (lastField m []) ∙ ap (λ v. w ++ v) (field-then n [] (lastField m [])))
     (put-then (put-then x y (omega (arith, x .end, y .end))) z (omega (arith, x .end, y .end, z .end)))
+
+pub line-few : (n m : ℕ) → length (field n (lastField m [])) ≤ 12
+line-few n m = omega (arith, field-length n (lastField m []), field-length n [], field-few n, last-few m)

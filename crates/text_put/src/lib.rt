@@ -1,5 +1,4 @@
 // Bytes, numbers and fields put at a place of a lent text, for the programs' lines.
-use model::Refusal;
 ghost use Prim.Native.Nat.{_+_, _≤_};
 ghost use lib.ListN.{length};
 ghost use mathlib.Core.List.{[], _++_, _∷_};
@@ -53,12 +52,12 @@ pub fn put_last(text: &mut [u8], at: usize, n: u16) -> usize
     put_byte(text, end, 10)
 }
 
-// Puts the one line of a refusal at the start: its word, number, record; inner.
-pub fn put_refusal(text: &mut [u8], word: &[u8], r: Refusal) -> usize
+// Puts a line of a word and two numbers at the start; inner.
+pub fn put_line(text: &mut [u8], word: &[u8], n: u16, m: u16) -> usize
     requires { ⌜ length (now word) + 12 ≤ length (now text) ⌝ }
-    ensures { λ e. ⌜ Put (now (text .entry)) 0 (now (word .entry) ++ field (r .number) (lastField (r .record) [])) (now (text .exit)) e ⌝ }
+    ensures { λ r. ⌜ Put (now (text .entry)) 0 (now (word .entry) ++ field n (lastField m [])) (now (text .exit)) r ⌝ }
 {
-    let number = put(text, 0, word);
-    let record = put_field(text, number, r.number as u16);
-    put_last(text, record, r.record)
+    let first = put(text, 0, word);
+    let last = put_field(text, first, n);
+    put_last(text, last, m)
 }
