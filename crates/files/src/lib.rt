@@ -1,8 +1,9 @@
-// Reading files and writing lines of fields, for the programs. What a file holds and what is written is the operating
-// system's; the contracts speak of the counts.
+// Reading files and writing bytes, for the programs. What a file holds and what is written is the operating system's; the
+// contracts speak of the counts.
 use libc::STDOUT_FILENO;
-use model::Refusal;
-ghost use Prim.Native.Nat.{_+_, _≤_};
+ghost use mathlib.Core.Path.{_≡_};
+ghost use Prim.Native.Nat.{_+_, _<_, _≤_};
+ghost use lib.ListN.{drop, length};
 ghost use Rattle.files.specs.Filled.{Filled};
 ghost use Rattle.io.specs.Counts.{Counts};
 
@@ -37,14 +38,13 @@ pub fn load(path: &[u8], buffer: &mut [u8]) -> Loaded
     }
 }
 
-// Reads a file of at most max bytes into a buffer of one byte more, and answers the length to lend: a file that is too
-// long is lent with the one byte too many, for the library to refuse.
+// Reads a file of at most max bytes into a buffer of one byte more or longer, and answers the length to lend: a file that
+// is too long is lent with the one byte too many, for the library to refuse. The bytes from max on stay as they were. Inner.
 pub fn load_most(path: &[u8], buffer: &mut [u8], max: usize) -> usize
-    ensures { λ r. ⌜ (Counts r (now (buffer .exit))) × (r ≤ max + 1) ⌝ }
+    requires { ⌜ max < length (now buffer) ⌝ }
+    ensures { λ r. ⌜ (Counts r (now (buffer .exit))) × (r ≤ max + 1)
+        × (drop max (now (buffer .exit)) ≡ drop max (now (buffer .entry))) ⌝ }
 {
-    if buffer.len() <= max {
-        return 0;
-    }
     let l = load(path, &mut buffer[..max]);
     if l.more {
         return max + 1;
@@ -52,37 +52,9 @@ pub fn load_most(path: &[u8], buffer: &mut [u8], max: usize) -> usize
     l.len
 }
 
-pub fn text(bytes: &[u8]) {
-    io::write_all(STDOUT_FILENO, bytes);
-}
-
-// The first n bytes. (The test is there for the proof that they exist.)
-pub fn first(bytes: &[u8], n: usize) {
-    if bytes.len() < n {
-        return;
-    }
-    text(&bytes[..n]);
-}
-
-pub fn number(n: u64) {
-    io::print_decimal(STDOUT_FILENO, n);
-}
-
-// A number and the space that parts it from the next field.
-pub fn field(n: u64) {
-    number(n);
-    text(b" ");
-}
-
-// A number and the end of the line.
-pub fn last(n: u64) {
-    number(n);
-    text(b"\n");
-}
-
-// The one line of a refusal: its word, number, record.
-pub fn refusal(word: &[u8], r: Refusal) {
-    text(word);
-    field(r.number as u64);
-    last(r.record as u64);
+// Writes the first n bytes to standard output, by one call; inner.
+pub fn first(bytes: &[u8], n: usize)
+    requires { ⌜ n ≤ length (now bytes) ⌝ }
+{
+    io::write_all(STDOUT_FILENO, &bytes[..n]);
 }

@@ -1,109 +1,89 @@
 // Screens itinerary.bin under policy.bin, runs script.bin, and writes the verdict, each step's answer and the end.
+use files::Loaded;
 use model::Refusal;
 use model::Screen;
 use model::Screened;
 use model::Verdict;
+ghost use mathlib.Core.Path.{_≡_};
+ghost use Prim.Native.Nat.{_+_, _≤_};
+ghost use lib.ListN.{length};
+ghost use mathlib.Core.Bool.{true};
+ghost use mathlib.Core.List.{[], _++_};
+ghost use Rattle.hubscreen.specs.Lent.{answersFor};
+ghost use Rattle.listing.specs.Lines.{shown};
+ghost use Rattle.model.specs.Calls.{screenAfter, screenAnswers};
+ghost use Rattle.model.specs.Listing.{field, lastField, listing, stepLines, verdictWord};
+ghost use Rattle.model.specs.Numbers.{refusal};
+ghost use Rattle.model.specs.Refusals.{done};
+ghost use Rattle.model.specs.Scripts.{scriptRight, stepsIn};
+ghost use Rattle.model.specs.Verdicts.{labelOf};
+ghost use Rattle.text_put.specs.Puts.{Put, over};
 
-fn show_verdict(v: Verdict) {
+// Puts line one: verdict, its label (0 if sealed), bits set; inner.
+fn put_verdict(text: &mut [u8], v: Verdict, ones: u16) -> usize
+    requires { ⌜ 20 ≤ length (now text) ⌝ }
+    ensures { λ r. ⌜ Put (now (text .entry)) 0 (verdictWord v ++ field (labelOf v) (lastField ones [])) (now (text .exit)) r ⌝ }
+{
     match v {
-        Verdict::Exposed(k) => {
-            files::text(b"exposed ");
-            files::field(k as u64);
-        }
-        Verdict::Hinted(k) => {
-            files::text(b"hinted ");
-            files::field(k as u64);
-        }
-        Verdict::Sealed => {
-            files::text(b"sealed ");
-            files::field(0);
-        }
+        Verdict::Exposed(k) => text_put::put_line(text, b"exposed ", k as u16, ones),
+        Verdict::Hinted(k) => text_put::put_line(text, b"hinted ", k as u16, ones),
+        Verdict::Sealed => text_put::put_line(text, b"sealed ", 0, ones),
     }
 }
 
-fn word(low: u8, high: u8) -> u64 {
-    (low as u64) + 256 * (high as u64)
+// Puts the one line of a refusal; inner.
+fn put_refused(text: &mut [u8], r: Refusal) -> usize
+    requires { ⌜ 20 ≤ length (now text) ⌝ }
+    ensures { λ e. ⌜ Put (now (text .entry)) 0 (listing (refusal r) [] []) (now (text .exit)) e ⌝ }
+{
+    text_put::put_line(text, b"refused ", r.number as u16, r.record)
 }
 
-fn wide(x: u8) -> u64 {
-    x as u64
-}
-
-// The line of step k: actor, partner, answer. (The tests on k are there for the proof that each byte exists.)
-fn show_step(script: &[u8], answers: &[u8], k: usize) {
-    if 1024 <= k {
-        return;
-    }
-    let at = 4 * k;
-    if script.len() < at + 4 {
-        return;
-    }
-    if answers.len() <= k {
-        return;
-    }
-    files::field(word(script[at], script[at + 1]));
-    files::field(word(script[at + 2], script[at + 3]));
-    files::last(wide(answers[k]));
-}
-
-// One line for each step.
-fn show_steps(script: &[u8], answers: &[u8]) {
-    let n = answers.len();
-    let mut k: usize = 0;
-    while k < n {
-        show_step(script, answers, k);
-        k += 1;
-    }
-}
-
-fn show_end(s: Screen) {
-    let c = s.counts;
-    files::text(b"end ");
-    files::field(c.ins as u64);
-    files::field(c.outs as u64);
-    files::field(c.opens as u64);
-    files::last(s.left as u64);
-}
-
-fn show_refusal(r: Refusal) {
-    files::refusal(b"refused ", r);
-}
-
-fn show_screen(s: Screen, script: &[u8], answers: &[u8]) {
+// Puts line one, a line for each step, and the last line; inner.
+fn put_screen(text: &mut [u8], s: Screen, script: &[u8], answers: &[u8]) -> usize
+    requires { ⌜ (scriptRight (now script) (length (now answers)) ≡ true)
+        × (48 + length (stepLines (stepsIn (now script)) (now answers) []) ≤ length (now text)) ⌝ }
+    ensures { λ r. ⌜ Put (now (text .entry)) 0 (listing (done s) (stepsIn (now (script .entry))) (now (answers .entry))) (now (text .exit)) r ⌝ }
+{
     let v = s.verdict;
-    show_verdict(v);
-    files::last(s.ones as u64);
-    show_steps(script, answers);
-    show_end(s);
+    let first = put_verdict(text, v, s.ones);
+    let last = listing::put_steps(text, first, script, answers);
+    let end = text_put::put(text, last, b"end ");
+    listing::put_counts(text, end, s)
 }
 
-// Screens the first i, p, z and n bytes of the four buffers. (The tests are there for the proof that they exist.)
-fn screen_parts(
+// Screens what is lent, and fills the text with what the program writes of it; answers the text's length. Inner.
+fn screen_text(
     it: &mut [u8],
-    i: usize,
     policy: &[u8],
-    p: usize,
     script: &[u8],
-    z: usize,
     answers: &mut [u8],
-    n: usize,
-) {
-    if it.len() < i {
-        return;
+    text: &mut [u8],
+) -> usize
+    requires { ⌜ 15408 ≤ length (now text) ⌝ }
+    ensures { λ r. ⌜ (r ≡ length (shown (now (it .entry)) (now (policy .entry)) (now (script .entry)) (now (answers .entry))))
+        × (now (text .exit) ≡ over (shown (now (it .entry)) (now (policy .entry)) (now (script .entry)) (now (answers .entry))) (now (text .entry)))
+        × (now (it .exit) ≡ screenAfter (now (it .entry)) (now (policy .entry)) (now (script .entry)) (now (answers .entry)))
+        × (now (answers .exit) ≡ screenAnswers (now (it .entry)) (now (policy .entry)) (now (script .entry)) (now (answers .entry))) ⌝ }
+{
+    match screen::screen(it, policy, script, answers) {
+        Screened::Refused(r) => put_refused(text, r),
+        Screened::Done(s) => put_screen(text, s, script, answers),
     }
-    if policy.len() < p {
-        return;
-    }
-    if script.len() < z {
-        return;
-    }
-    if answers.len() < n {
-        return;
-    }
-    match screen::screen(&mut it[..i], &policy[..p], &script[..z], &mut answers[..n]) {
-        Screened::Refused(r) => show_refusal(r),
-        Screened::Done(s) => show_screen(s, &script[..z], &answers[..n]),
-    }
+}
+
+// How many answers are lent: one for each step, and none where the script is too long, for the library to refuse it.
+fn answers_for(l: Loaded) -> usize
+    ensures { λ r. ⌜ r ≡ answersFor (l .more) (l .len) ⌝ }
+{
+    if l.more { 0 } else { l.len / 4 }
+}
+
+// Room for 1,024 lines of 15 bytes, line one and the last.
+fn room() -> [u8; 15408]
+    ensures { λ r. ⌜ 15408 ≡ length r ⌝ }
+{
+    [0u8; 15408]
 }
 
 fn main() {
@@ -111,11 +91,18 @@ fn main() {
     let mut policy = [0u8; 65];
     let mut script = [0; 4096];
     let mut answers = [0; 1024];
+    let mut text = room();
     let i = files::load_most(b"itinerary.bin", &mut it, 8192);
     let p = files::load_most(b"policy.bin", &mut policy, 64);
     let l = files::load(b"script.bin", &mut script);
     let z = l.len;
-    // a script that is too long has no room for its answers, for the library to refuse
-    let n = if l.more { 0 } else { z / 4 };
-    screen_parts(&mut it, i, &policy, p, &script, z, &mut answers, n);
+    let n = answers_for(l);
+    let r = screen_text(
+        &mut it[..i],
+        &policy[..p],
+        &script[..z],
+        &mut answers[..n],
+        &mut text,
+    );
+    files::first(&text, r);
 }

@@ -1,7 +1,7 @@
 -- The parts of the text put one after the other, and the loop over the steps: what is still to be put is the lines of the
 -- steps ahead.
 use Prim.Native.Nat.{_*_, _+_, _/_, _<_, _≤_, suc, ℕ}
-use lib.ListN.{drop, drop-of-length-le, getD, length}
+use lib.ListN.{drop, drop-of-length-le, getD, length, length-append}
 use lib.Seq.{drop-cons}
 use mathlib.Core.List.{List, [], _++_, _∷_, append-assoc}
 use mathlib.Core.Path.{_∙_, _≡_, ap, refl, sym}
@@ -15,7 +15,9 @@ use Rattle.model.specs.Refusals.{done}
 use Rattle.model.specs.Scripts.{Step, stepIn, stepsIn}
 use Rattle.model.specs.Verdicts.{labelOf}
 use Rattle.model.specs.declared.Screen.{Screen}
-use Rattle.text_put.specs.Laws.{field-few, field-length, field-then, last-few, last-then, put-as, put-then, putting-room, putting-start}
+use Rattle.model.specs.declared.Verdict.{Verdict}
+use Rattle.model.specs.declared.Verdict.the-variants.{Exposed, Hinted, Sealed}
+use Rattle.text_put.specs.Laws.{field-few, field-length, field-then, last-few, last-then, line-few, put-as, put-then, putting-room, putting-start}
 use Rattle.text_put.specs.Puts.{Put, Putting}
 use Rattle.listing.specs.Lines.{countFields, stepLine}
 
@@ -52,6 +54,13 @@ counts-put x h u v w y =
     let l = last-few (x .left) in
     put-as (simp (append-assoc, field-then))
     (put-then (put-then (put-then u v (omega (arith, u .end, v .end))) w (omega (arith, u .end, v .end, w .end))) y (omega (arith, u .end, v .end, w .end, y .end)))
+
+-- the word of line one
+pub verdict-few : (v : Verdict) → length (verdictWord v) ≤ 8
+unfolding verdictWord
+verdict-few (Exposed k) = omega arith
+verdict-few (Hinted k) = omega arith
+verdict-few Sealed = omega arith
 
 -- the lines of the steps from k on
 unfoldable pub ahead : List ℕ → List ℕ → ℕ → List ℕ
@@ -118,3 +127,17 @@ listing-parts x ms answers =
     let l = stepLines ms answers [] in
     append-assoc ((v ++ f) ++ l) endWord (countFields x) ∙ append-assoc (v ++ f) l (endLine x) ∙ append-assoc v f (l ++ endLine x)
     ∙ ap (λ u. v ++ u) (field-then n (lastField (x .ones) []) (l ++ endLine x) ∙ ap (field n) (last-then (x .ones) [] (l ++ endLine x) ∙ ap (lastField (x .ones)) (lines-then ms answers (endLine x))))
+
+-- put one after the other
+pub listing-put : (x : Screen) (ms : List Step) (answers : List ℕ) {t t₁ t₂ t₃ t₄ : List ℕ} {e₁ e₂ e₃ e₄ : ℕ} → 48 + length (stepLines ms answers []) ≤ length t →
+    Put t 0 (verdictWord (x .verdict) ++ field (labelOf (x .verdict)) (lastField (x .ones) [])) t₁ e₁ →
+    Put t₁ e₁ (stepLines ms answers []) t₂ e₂ → Put t₂ e₂ endWord t₃ e₃ → Put t₃ e₃ (countFields x) t₄ e₄ → Put t 0 (listing (done x) ms answers) t₄ e₄
+unfolding endWord
+listing-put x ms answers h u v w y =
+    let n = labelOf (x .verdict) in
+    let l = length-append (verdictWord (x .verdict)) (field n (lastField (x .ones) [])) in
+    let f = line-few n (x .ones) in
+    let k = verdict-few (x .verdict) in
+    let c = counts-few x in
+    put-as (listing-parts x ms answers)
+    (put-then (put-then (put-then u v (omega (arith, u .end, v .end))) w (omega (arith, u .end, v .end, w .end))) y (omega (arith, u .end, v .end, w .end, y .end)))

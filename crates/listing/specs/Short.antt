@@ -11,7 +11,7 @@ use Rattle.calculus.specs.Runs.{length-orders, script-of}
 use Rattle.model.specs.Analysis.{Permit, free}
 use Rattle.model.specs.Calls.{screenAnswer, screenAnswers, screening}
 use Rattle.model.specs.Laws.Checks.{answer-done, need-pass, then-pass}
-use Rattle.model.specs.Listing.{endWord, listing, refusedWord, stepLines, verdictWord}
+use Rattle.model.specs.Listing.{endWord, listing, refusedWord, stepLines}
 use Rattle.model.specs.Records.{Capability, records}
 use Rattle.model.specs.Refusals.{Answer, content, done, pass, refused}
 use Rattle.model.specs.Scripts.{Step, answersOf, outcomes, scriptRight, stepsIn}
@@ -19,11 +19,9 @@ use Rattle.model.specs.Steps.{answerOf, decide, outcome, outcomeBy, stepBytes}
 use Rattle.model.specs.Verdicts.{labelOf}
 use Rattle.model.specs.declared.Rec.{Rec}
 use Rattle.model.specs.declared.Screen.{Screen}
-use Rattle.model.specs.declared.Verdict.{Verdict}
-use Rattle.model.specs.declared.Verdict.the-variants.{Exposed, Hinted, Sealed}
 use Rattle.text_put.specs.Digits.{digits-two}
 use Rattle.text_put.specs.Laws.{field-few, last-length, line-few}
-use Rattle.listing.specs.Laws.{counts-few, line-first, listing-parts, step-length}
+use Rattle.listing.specs.Laws.{counts-few, line-first, listing-parts, step-length, verdict-few}
 use Rattle.listing.specs.Lines.{shown, stepLine}
 
 -- an answer is 0, 10, 11 or 12
@@ -69,13 +67,6 @@ module _ (s policy z answers : List ℕ) (x : Screen) (d : screenAnswer s policy
   unfolding screenAnswers content
   done-short = rw (passes, content) (omega (arith, lines-short s (stepsIn z), length-orders z, script-of z (length answers) done-script .few))
 
--- the words of line one
-pub verdict-few : (v : Verdict) → length (verdictWord v) ≤ 8
-unfolding verdictWord
-verdict-few (Exposed k) = omega arith
-verdict-few (Hinted k) = omega arith
-verdict-few Sealed = omega arith
-
 -- the text of a screen that is done, and of one that is refused
 done-all : (s policy z answers : List ℕ) (x : Screen) → screenAnswer s policy z answers ≡ done x → length (listing (done x) (stepsIn z) (screenAnswers s policy z answers)) ≤ 15408
 unfolding endWord
@@ -97,3 +88,6 @@ shown-short s policy z answers = go (screenAnswer s policy z answers) refl
     go : (a : Answer Screen) → screenAnswer s policy z answers ≡ a → length (listing a (stepsIn z) (screenAnswers s policy z answers)) ≤ 15408
     go (done x) e = done-all s policy z answers x e
     go (refused n r) e = refused-few n r (stepsIn z) (screenAnswers s policy z answers)
+
+pub shown-fits : (s policy z answers : List ℕ) {n : ℕ} → n ≡ length (shown s policy z answers) → n ≤ 15408
+shown-fits s policy z answers e = omega (arith, shown-short s policy z answers)

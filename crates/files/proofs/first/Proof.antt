@@ -1,4 +1,4 @@
--- `files::first` meets its contract. A part that is lent has its length.
+-- `files::first` meets its contract. The part that is lent has its length.
 use borrow.Author.Needs.{needs}
 use lib.Seq.{length-take-le}
 use mathlib.Core.Path.{sym}
@@ -6,17 +6,14 @@ use native.Mathlib.Omega.{arith}
 use Rattle.files.proofs.first.Statement.{statement}
 use Rattle.files.proofs.first.Tie as tie
 
+slice-aggregate-write-all : tie.Need-slice-aggregate-write-all
+slice-aggregate-write-all c = sym (length-take-le _ _ (omega arith))
+
+write-all-requires : tie.Need-write-all-requires
+write-all-requires c κs = search needs
+
 returns : tie.Need-returns
 returns c = search needs
 
-slice-aggregate-text : tie.Need-slice-aggregate-text
-slice-aggregate-text c = sym (length-take-le _ _ (omega arith))
-
-text-requires : tie.Need-text-requires
-text-requires c κs = search needs
-
-returns-2 : tie.Need-returns-2
-returns-2 c = search needs
-
 pub first-spec : {M : Type 1} → statement M
-first-spec = tie.close (tie.spec returns slice-aggregate-text text-requires returns-2)
+first-spec = tie.close (tie.spec slice-aggregate-write-all write-all-requires returns)

@@ -1,0 +1,69 @@
+-- `hubscreen::screen_text` meets its contract: by the answer of the screen, done or refused.
+use borrow.Author.Needs.{needs}
+use native.Mathlib.Omega.{arith}
+use Rattle.hubscreen.specs.Laws.{room-done, text-done, text-refused}
+use Rattle.hubscreen.proofs.screen_text.Statement.{statement}
+use Rattle.hubscreen.proofs.screen_text.Tie as tie
+
+screen-requires : tie.Need-screen-requires
+screen-requires c κs = search needs
+
+enum-known-r : tie.Need-enum-known-r
+enum-known-r c = search needs
+
+put-refused-requires : tie.Need-put-refused-requires
+put-refused-requires c κs = search needs
+
+enum-known-s : tie.Need-enum-known-s
+enum-known-s c = search needs
+
+put-screen-requires : tie.Need-put-screen-requires
+put-screen-requires c κs = room-done _ (c .before .before .before .before .before .before .before .before .before .before .before .before .before .before .before .before .before .args .policy .now) _ _ (c .before .before .before .before .before .before .before .before .before .screen .result) (c .before .before .before .before .before .before .before .before .before .screen .ensures .0) _ (c .before .before .before .s .given .1) _ (c .before .before .before .before .before .before .before .before .before .screen .ensures .2) (c .before .before .before .before .before .before .before .before .before .screen .kept .1 .1 .1 .0) _ (c .before .before .before .before .before .before .before .before .before .before .before .before .before .before .before .before .before .pre)
+
+same-length : tie.Need-same-length
+same-length c = search needs
+
+same-length-2 : tie.Need-same-length-2
+same-length-2 c = search needs
+
+same-length-3 : tie.Need-same-length-3
+same-length-3 c = search needs
+
+returns : tie.Need-returns
+returns c =
+    let screen = c .before .before .before .before .before .before .before .before .before .before .before .screen in
+    let t = text-refused _ (c .before .before .before .before .before .before .before .before .before .before .before .before .before .before .before .before .before .before .before .args .policy .now) _ _ (screen .result) (screen .ensures .0) _ (c .before .before .before .before .before .r .given .1) (c .before .before .put-refused .ensures) in
+    (t .0, t .1, screen .ensures .1, screen .ensures .2)
+
+same-length-4 : tie.Need-same-length-4
+same-length-4 c = search needs
+
+same-length-5 : tie.Need-same-length-5
+same-length-5 c = search needs
+
+same-length-6 : tie.Need-same-length-6
+same-length-6 c = search needs
+
+returns-2 : tie.Need-returns-2
+returns-2 c =
+    let screen = c .before .before .before .before .before .before .before .before .before .before .before .before .screen in
+    let t = text-done _ (c .before .before .before .before .before .before .before .before .before .before .before .before .before .before .before .before .before .before .before .before .args .policy .now) _ _ (screen .result) (screen .ensures .0) _ (c .before .before .before .before .before .before .s .given .1) _ (screen .ensures .2) (c .before .before .put-screen .ensures) in
+    (t .0, t .1, screen .ensures .1, screen .ensures .2)
+
+pub screen-text-spec : {M : Type 1} → statement M
+screen-text-spec =
+    tie.close
+    (tie.spec
+    screen-requires
+    enum-known-r
+    put-refused-requires
+    enum-known-s
+    put-screen-requires
+    same-length
+    same-length-2
+    same-length-3
+    returns
+    same-length-4
+    same-length-5
+    same-length-6
+    returns-2)

@@ -1,0 +1,131 @@
+-- What the program lends of what its files hold, and that it gives the text that the files ask for.
+use Prim.Native.Nat.{_%_, _+_, _/_, _<_, _≤_, ℕ}
+use borrow.Author.Tests.{eqb-true, leb-true, lt-leb, ne-eqb}
+use lib.Dec.{eqb}
+use lib.ListN.{length, length-replicate, replicate}
+use mathlib.Core.Bool.{Bool, and-false, false, true}
+use mathlib.Core.List.{List}
+use mathlib.Core.Option.{Option}
+use mathlib.Core.Path.{_∙_, _≡_, ap, refl, sym}
+use native.Mathlib.Decide.{decLe}
+use native.Mathlib.Omega.{arith}
+use Rattle.itinerary.specs.Laws.{need-refuse, then-refuse, valid-few}
+use Rattle.listing.specs.Lines.{shown}
+use Rattle.model.specs.Analysis.{free}
+use Rattle.model.specs.Calls.{screenAnswer, screenAnswers, screening}
+use Rattle.model.specs.Laws.Checks.{need-pass, then-pass}
+use Rattle.model.specs.Laws.WellFormed.{and-left, and-right}
+use Rattle.model.specs.Least.{leastTable}
+use Rattle.model.specs.Listing.{contentOf, hubscreen, listing, written}
+use Rattle.model.specs.Records.{records}
+use Rattle.model.specs.Refusals.{Check, answer, content, pass, refuse}
+use Rattle.model.specs.Scripts.{afterList, answersOf, countsOf, notGone, outcomes, scriptRight, stepsIn}
+use Rattle.model.specs.Tables.{bits, parts, policyRight, total}
+use Rattle.model.specs.Validity.{sizeRight, validity}
+use Rattle.model.specs.Verdicts.{verdictOf}
+
+-- how many answers are lent for a script of which n bytes are there, by whether it has more
+unfoldable pub answersFor : Bool → ℕ → ℕ
+answersFor true n = 0
+answersFor false n = n / 4
+
+pub answers-few : (more : Bool) (n : ℕ) → answersFor more n ≤ n / 4
+unfolding answersFor
+answers-few true n = omega arith
+answers-few false n = omega arith
+
+-- the part lent of a file of at most max bytes: the whole file, or one byte too many
+pub record Part (max : ℕ) (file part : List ℕ) : Type 0 where
+  pub whole : length file ≤ max → part ≡ file
+  pub long : max < length file → length part ≡ max + 1
+
+-- the part and the answers lent of a script: all of it with one answer a step, or its first 4,096 bytes with none
+pub record ScriptPart (file part answers : List ℕ) : Type 0 where
+  pub whole : length file ≤ 4096 → (part ≡ file) × (length answers ≡ length file / 4)
+  pub long : 4096 < length file → (length part ≡ 4096) × (length answers ≡ 0)
+
+-- each check says the same of the part as of the file
+too-long : (s : List ℕ) → 8192 < length s → validity s ≡ refuse 1 0
+unfolding validity sizeRight
+too-long s h = then-refuse _ (need-refuse 1 0 (rw (lt-leb (length s) 8192 h) (and-false (eqb (length s % 8) 0))))
+
+part-validity : {file part : List ℕ} → Part 8192 file part → validity part ≡ validity file
+part-validity {file} {part} r = go (decLe (length file) 8192)
+  where
+    go : Dec (length file ≤ 8192) → validity part ≡ validity file
+    go (yes l) = ap validity (r .whole l)
+    go (no l) = too-long part (omega (arith, r .long (omega arith))) ∙ sym (too-long file (omega arith))
+
+unfit : (policy : List ℕ) → 64 < length policy → policyRight policy ≡ false
+unfolding policyRight
+unfit policy h = rw (ne-eqb (length policy) 64 (λ e. omega arith))
+
+part-policy : {file part : List ℕ} → Part 64 file part → policyRight part ≡ policyRight file
+part-policy {file} {part} r = go (decLe (length file) 64)
+  where
+    go : Dec (length file ≤ 64) → policyRight part ≡ policyRight file
+    go (yes l) = ap policyRight (r .whole l)
+    go (no l) = unfit part (omega (arith, r .long (omega arith))) ∙ sym (unfit file (omega arith))
+
+over-long : (z : List ℕ) (n : ℕ) → 4096 < length z → scriptRight z n ≡ false
+unfolding scriptRight
+over-long z n h = rw (lt-leb (length z) 4096 h) (and-false (eqb (length z % 4) 0))
+
+no-answers : (z : List ℕ) (n : ℕ) → length z ≡ 4096 → n ≡ 0 → scriptRight z n ≡ false
+unfolding scriptRight
+no-answers z n e k = rw (e, k)
+
+part-script : {file part answers : List ℕ} → ScriptPart file part answers → scriptRight part (length answers) ≡ scriptRight file (length file / 4)
+part-script {file} {part} {answers} r = go (decLe (length file) 4096)
+  where
+    go : Dec (length file ≤ 4096) → scriptRight part (length answers) ≡ scriptRight file (length file / 4)
+    go (yes l) = rw (r .whole l .0, r .whole l .1)
+    go (no l) = no-answers part (length answers) (r .long (omega arith) .0) (r .long (omega arith) .1) ∙ sym (over-long file _ (omega arith))
+
+module _ {S s P p Z z a : List ℕ} (e : Part 8192 S s) (f : Part 64 P p) (g : ScriptPart Z z a) where
+  same-checks : screening s p z a ≡ screening S P Z (replicate (length Z / 4) 0)
+  unfolding screening
+  same-checks = rw (part-validity e, part-policy f, part-script g, length-replicate {0} {A = ℕ} (length Z / 4) 0)
+
+  -- files that the checks pass are lent whole
+  whole-parts : screening S P Z (replicate (length Z / 4) 0) ≡ pass → (s ≡ S) × (p ≡ P) × (z ≡ Z)
+  unfolding screening policyRight scriptRight
+  whole-parts h =
+      let c = then-pass _ _ h in
+      let d = then-pass _ _ (c .1) in
+      let script = need-pass _ 13 0 (d .1) in
+      let policy : length P ≡ 64 = eqb-true _ _ (and-left _ _ (need-pass _ 7 0 (d .0))) in
+      let few : length Z ≤ 4096 = leb-true _ _ (and-left _ _ (and-right (eqb (length Z % 4) 0) _ script)) in
+      (e .whole (valid-few S (c .0)), f .whole (omega arith), g .whole few .0)
+
+-- the text by the outcome of the checks; a refusal's line shows neither steps nor answers
+shownBy : Check → List ℕ → List ℕ → List ℕ → List ℕ → List ℕ
+shownBy c s policy z a =
+    let table = leastTable free policy (records s) in
+    listing (answer c (record {
+      verdict = verdictOf (parts (bits table)) policy;
+      ones = total table;
+      counts = countsOf (outcomes free s (stepsIn z));
+      left = notGone (records (afterList free s (stepsIn z)));
+    })) (stepsIn z) (content c (answersOf free s (stepsIn z)) a)
+
+shown-by : (s policy z a : List ℕ) → shown s policy z a ≡ shownBy (screening s policy z a) s policy z a
+unfolding shown shownBy screenAnswer screenAnswers
+shown-by s policy z a = refl
+
+same-by : (c : Check) {s policy z s′ policy′ z′ : List ℕ} (a a′ : List ℕ) → (c ≡ pass → (s ≡ s′) × (policy ≡ policy′) × (z ≡ z′)) → shownBy c s policy z a ≡ shownBy c s′ policy′ z′ a′
+unfolding shownBy answer content listing
+same-by pass a a′ f = let e = f refl in rw (e .0, e .1, e .2)
+same-by (refuse n r) a a′ f = refl
+
+-- Whatever the files hold, the parts that the program lends of them give the text that document 01 asks for.
+pub lent-hubscreen : (itinerary policy script : Option (List ℕ)) (s p z a : List ℕ) →
+    Part 8192 (contentOf itinerary) s → Part 64 (contentOf policy) p → ScriptPart (contentOf script) z a → shown s p z a ≡ hubscreen itinerary policy script
+unfolding hubscreen written shown
+lent-hubscreen itinerary policy script s p z a e f g =
+    let S = contentOf itinerary in
+    let P = contentOf policy in
+    let Z = contentOf script in
+    let A : List ℕ = replicate (length Z / 4) 0 in
+    let same = same-checks e f g in
+    shown-by s p z a ∙ ap (λ c. shownBy c s p z a) same ∙ same-by (screening S P Z A) a A (whole-parts e f g) ∙ sym (shown-by S P Z A)
