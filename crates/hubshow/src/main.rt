@@ -1,21 +1,29 @@
 // Reads itinerary.bin and writes the text form of the itinerary, or the line of its refusal.
-use model::Refusal;
 use textform::TextWritten;
+ghost use mathlib.Core.Path.{_≡_};
+ghost use Prim.Native.Nat.{_≤_};
+ghost use lib.ListN.{length};
+ghost use Rattle.model.specs.Records.{records};
+ghost use Rattle.model.specs.Validity.{validity};
+ghost use Rattle.text_put.specs.Puts.{over};
+ghost use Rattle.textform.specs.Writing.{textOf, textOr};
 
 // Room for the longest text of 1,024 lines.
 fn room() -> [u8; 1061888] {
     [0u8; 1061888]
 }
 
-fn show_refusal(r: Refusal) {
-    files::refusal(b"refused ", r);
-}
-
-fn convert(it: &[u8], text: &mut [u8]) {
+// Fills the text with what the program writes, and answers its length; inner. There is always room for it: the equations
+// hold of the arm without room only because it never comes to it.
+fn show_text(it: &[u8], text: &mut [u8]) -> usize
+    requires { ⌜ 1061888 ≤ length (now text) ⌝ }
+    ensures { λ r. ⌜ (r ≡ length (textOr (validity (now (it .entry))) (textOf (records (now (it .entry))))))
+        × (now (text .exit) ≡ over (textOr (validity (now (it .entry))) (textOf (records (now (it .entry))))) (now (text .entry))) ⌝ }
+{
     match textwrite::write_text(it, text) {
-        TextWritten::Refused(r) => show_refusal(r),
-        TextWritten::Length(len) => files::first(text, len),
-        TextWritten::NoRoom(_) => {}
+        TextWritten::Refused(r) => text_put::put_line(text, b"refused ", r.number as u16, r.record),
+        TextWritten::Length(len) => len,
+        TextWritten::NoRoom(_) => 0,
     }
 }
 
@@ -23,5 +31,6 @@ fn main() {
     let mut it = [0u8; 8193];
     let mut text = room();
     let n = files::load_most(b"itinerary.bin", &mut it, 8192);
-    convert(&it[..n], &mut text);
+    let r = show_text(&it[..n], &mut text);
+    files::first(&text, r);
 }

@@ -10,4 +10,5 @@ pub mod Putting
 pub mod Walking
 pub mod Listing
 pub mod Longest
+pub mod Room
 pub mod Examples

@@ -195,17 +195,14 @@ unfolding count
 valid-count s v = omega (arith, valid-few s v)
 
 module _ (s : List ℕ) (v : validity s ≡ pass) where
-  written-lines : List Line
-  written-lines = map (lineAt (records s)) (walk (records s))
-
-  written-nested : Nested 0 written-lines × (length written-lines ≤ 1024)
-  unfolding written-lines walk
+  pub written-nested : Nested 0 (map (lineAt (records s)) (walk (records s))) × (length (map (lineAt (records s)) (walk (records s))) ≤ 1024)
+  unfolding walk
   written-nested = let w = walk-nested (records s) (valid-wf s v) (length (records s)) 0 0 in (w .0, rw length-map (omega (arith, w .1, length-records s, valid-count s v)))
 
   -- what is written is read, to its end
   pub accepted : scan 1024 (textOf (records s)) ≡ record { lines = map (lineAt (records s)) (walk (records s)); fault = none }
-  unfolding scan textOf written-lines
-  accepted = scan-render 1024 0 written-lines (written-nested .0) (written-nested .1)
+  unfolding scan textOf
+  accepted = scan-render 1024 0 _ (written-nested .0) (written-nested .1)
 
   pub accepted-lines : bytesOf (textOf (records s)) ≡ encode (placed (map (lineAt (records s)) (walk (records s))))
   unfolding bytesOf
@@ -213,8 +210,8 @@ module _ (s : List ℕ) (v : validity s ≡ pass) where
 
   -- text to bytes to text is the identity on what is written
   pub identity : textOf (records (bytesOf (textOf (records s)))) ≡ textOf (records s)
-  unfolding textOf written-lines
-  identity = ap (λ x. textOf (records x)) accepted-lines ∙ rw (records-encode (placed written-lines)) (ap render (walk-placed written-lines (written-nested .0) (written-nested .1)))
+  unfolding textOf
+  identity = ap (λ x. textOf (records x)) accepted-lines ∙ rw (records-encode (placed (map (lineAt (records s)) (walk (records s))))) (ap render (walk-placed _ (written-nested .0) (written-nested .1)))
 
 bytes-valid : (text : List ℕ) → validity (bytesOf text) ≡ pass
 unfolding bytesOf

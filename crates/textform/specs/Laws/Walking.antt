@@ -118,7 +118,7 @@ word-short (suc (suc (suc zero))) = omega arith
 word-short (suc (suc (suc (suc zero)))) = omega arith
 word-short (suc (suc (suc (suc (suc k))))) = omega arith
 
-mark-short : (b : Bool) → length (mark b) ≤ 7
+pub mark-short : (b : Bool) → length (mark b) ≤ 7
 unfolding mark hiddenWord
 mark-short true = omega arith
 mark-short false = omega arith

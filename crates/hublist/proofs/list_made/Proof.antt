@@ -1,0 +1,60 @@
+-- `hublist::list_made` meets its contract: by the answer of the maker, done or refused.
+use borrow.Author.Needs.{needs}
+use Rattle.hublist.specs.Listed.{made-done, made-refused}
+use Rattle.hublist.proofs.list_made.Statement.{statement}
+use Rattle.hublist.proofs.list_made.Tie as tie
+
+make-requires : tie.Need-make-requires
+make-requires c κs = search needs
+
+enum-known-r : tie.Need-enum-known-r
+enum-known-r c = search needs
+
+put-refused-requires : tie.Need-put-refused-requires
+put-refused-requires c κs = search needs
+
+enum-told : tie.Need-enum-told
+enum-told c = search needs
+
+list-requires : tie.Need-list-requires
+list-requires c κs = search needs
+
+same-length : tie.Need-same-length
+same-length c = search needs
+
+same-length-2 : tie.Need-same-length-2
+same-length-2 c = search needs
+
+returns : tie.Need-returns
+returns c =
+    let make = c .before .before .before .before .before .before .before .before .before .make in
+    let t = made-refused _ (c .before .before .before .before .before .before .before .before .before .before .before .before .before .before .before .args .policy .now) _ (make .result) (make .ensures .0) _ (c .before .before .before .before .before .r .given .1) (c .before .before .put-refused .ensures) in
+    (t .0, t .1, make .ensures .1)
+
+same-length-3 : tie.Need-same-length-3
+same-length-3 c = search needs
+
+same-length-4 : tie.Need-same-length-4
+same-length-4 c = search needs
+
+returns-2 : tie.Need-returns-2
+returns-2 c =
+    let make = c .before .before .before .before .before .before .before .before .before .make in
+    let t = made-done _ (c .before .before .before .before .before .before .before .before .before .before .before .before .before .before .before .args .policy .now) _ (make .result) (make .ensures .0) _ (c .before .before .before .before .before .enum-told .given .1) _ _ (make .ensures .1) (c .before .before .list .ensures) in
+    (t .0, t .1, make .ensures .1)
+
+pub list-made-spec : {M : Type 1} → statement M
+list-made-spec =
+    tie.close
+    (tie.spec
+    make-requires
+    enum-known-r
+    put-refused-requires
+    enum-told
+    list-requires
+    same-length
+    same-length-2
+    returns
+    same-length-3
+    same-length-4
+    returns-2)

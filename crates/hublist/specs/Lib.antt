@@ -1,0 +1,2 @@
+-- What the program writes, and its laws.
+pub mod Listed

@@ -1,0 +1,68 @@
+-- `hubshow::show_text` meets its contract: a valid itinerary has a text with room, so that there is never too little.
+use borrow.Author.Needs.{needs}
+use native.Mathlib.Omega.{arith}
+use Rattle.model.specs.Listing.{refusedWord}
+use Rattle.textform.specs.Laws.Room.{never, refused, text-short, wrote}
+use Rattle.textform.specs.Writing.{writeAfter, writeAnswer}
+use Rattle.hubshow.proofs.show_text.Statement.{statement}
+use Rattle.hubshow.proofs.show_text.Tie as tie
+
+write-text-requires : tie.Need-write-text-requires
+write-text-requires c κs = search needs
+
+enum-known-r : tie.Need-enum-known-r
+enum-known-r c = search needs
+
+slice-aggregate-put-line : tie.Need-slice-aggregate-put-line
+slice-aggregate-put-line c = search needs
+
+cast-put-line : tie.Need-cast-put-line
+cast-put-line c = search needs
+
+put-line-requires : tie.Need-put-line-requires
+put-line-requires c κs = search needs
+
+enum-known-len : tie.Need-enum-known-len
+enum-known-len c = search needs
+
+enum-told : tie.Need-enum-told
+enum-told c = search needs
+
+same-length : tie.Need-same-length
+same-length c = search needs
+
+returns : tie.Need-returns
+unfolding refusedWord writeAnswer writeAfter
+returns c = refused _ _ _ _ (c .before .before .before .before .before .before .before .before .before .before .before .write-text .result) (c .before .before .before .before .before .before .before .before .before .before .before .write-text .ensures .0) (c .before .before .before .before .before .before .before .before .before .before .before .write-text .ensures .1) (λ p. omega (arith, text-short _ p, c .before .before .before .before .before .before .before .before .before .before .before .before .before .before .before .pre)) _ (c .before .before .before .before .before .before .before .r .given .1) (c .before .before .put-line .ensures)
+
+same-length-2 : tie.Need-same-length-2
+same-length-2 c = search needs
+
+returns-2 : tie.Need-returns-2
+unfolding writeAnswer writeAfter
+returns-2 c = wrote _ _ _ _ (c .before .before .before .before .before .write-text .result) (c .before .before .before .before .before .write-text .ensures .0) (c .before .before .before .before .before .write-text .ensures .1) (λ p. omega (arith, text-short _ p, c .before .before .before .before .before .before .before .before .before .pre)) _ (c .before .len .given .1)
+
+same-length-3 : tie.Need-same-length-3
+same-length-3 c = search needs
+
+returns-3 : tie.Need-returns-3
+unfolding writeAnswer writeAfter
+returns-3 c = absurd (never _ _ _ _ (c .before .before .before .before .write-text .result) (c .before .before .before .before .write-text .ensures .0) (c .before .before .before .before .write-text .ensures .1) (λ p. omega (arith, text-short _ p, c .before .before .before .before .before .before .before .before .pre)) _ (c .enum-told .given .1))
+
+pub show-text-spec : {M : Type 1} → statement M
+show-text-spec =
+    tie.close
+    (tie.spec
+    write-text-requires
+    enum-known-r
+    slice-aggregate-put-line
+    cast-put-line
+    put-line-requires
+    enum-known-len
+    enum-told
+    same-length
+    returns
+    same-length-2
+    returns-2
+    same-length-3
+    returns-3)
