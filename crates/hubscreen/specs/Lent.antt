@@ -9,7 +9,7 @@ use mathlib.Core.Option.{Option}
 use mathlib.Core.Path.{_∙_, _≡_, ap, refl, sym}
 use native.Mathlib.Decide.{decLe}
 use native.Mathlib.Omega.{arith}
-use Rattle.itinerary.specs.Laws.{need-refuse, then-refuse, valid-few}
+use Rattle.itinerary.specs.Laws.{valid-few, valid-size}
 use Rattle.listing.specs.Lines.{shown}
 use Rattle.model.specs.Analysis.{free}
 use Rattle.model.specs.Calls.{screenAnswer, screenAnswers, screening}
@@ -46,8 +46,8 @@ pub record ScriptPart (file part answers : List ℕ) : Type 0 where
 
 -- each check says the same of the part as of the file
 too-long : (s : List ℕ) → 8192 < length s → validity s ≡ refuse 1 0
-unfolding validity sizeRight
-too-long s h = then-refuse _ (need-refuse 1 0 (rw (lt-leb (length s) 8192 h) (and-false (eqb (length s % 8) 0))))
+unfolding sizeRight
+too-long s h = valid-size s (rw (lt-leb (length s) 8192 h) (and-false (eqb (length s % 8) 0)))
 
 part-validity : {file part : List ℕ} → Part 8192 file part → validity part ≡ validity file
 part-validity {file} {part} r = go (decLe (length file) 8192)

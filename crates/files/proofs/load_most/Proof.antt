@@ -1,5 +1,4 @@
 -- `files::load_most` meets its contract. The part that is lent has its length, and what follows it is not lent.
-use Prim.Native.Nat.{_+_}
 use borrow.Author.Needs.{needs}
 use lib.Seq.{drop-at, length-take-le}
 use mathlib.Core.Path.{_∙_, sym}
@@ -29,7 +28,7 @@ returns c =
     let load = c .before .before .before .load in
     let part = length-take-le (args .max) (args .buffer .now) (omega (arith, c .before .before .before .before .before .before .before .pre)) in
     let l = same-length c in
-    (counted (args .max + 1) _ (omega (arith, load .ensures .counts .0, load .kept .1 .0)), omega (arith, load .ensures .counts .0, load .kept .1 .0), drop-at (load .last .1 .0) _ _ (load .kept .1 .0 ∙ part))
+    (counted _ _ (omega (arith, load .ensures .counts .0, load .kept .1 .0)), omega (arith, load .ensures .counts .0, load .kept .1 .0), drop-at (load .last .1 .0) _ _ (load .kept .1 .0 ∙ part))
 
 same-length-2 : tie.Need-same-length-2
 same-length-2 c = search needs

@@ -1,6 +1,5 @@
 -- `hubscreen::screen_text` meets its contract: by the answer of the screen, done or refused.
 use borrow.Author.Needs.{needs}
-use native.Mathlib.Omega.{arith}
 use Rattle.hubscreen.specs.Laws.{room-done, text-done, text-refused}
 use Rattle.hubscreen.proofs.screen_text.Statement.{statement}
 use Rattle.hubscreen.proofs.screen_text.Tie as tie

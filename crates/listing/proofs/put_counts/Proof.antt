@@ -7,7 +7,7 @@ use Rattle.listing.proofs.put_counts.Statement.{statement}
 use Rattle.listing.proofs.put_counts.Tie as tie
 
 put-field-requires : tie.Need-put-field-requires
-put-field-requires c κs = omega (arith, c .before .before .before .pre, field-few (c .before .before .before .args .s .counts .ins))
+put-field-requires c κs = omega (arith, c .before .before .before .pre, field-few (c .before .before .before .args .s .counts .ins), field-few (c .before .before .before .args .s .counts .outs))
 
 put-field-requires-2 : tie.Need-put-field-requires-2
 put-field-requires-2 c κs = omega (arith, c .before .before .before .before .before .before .before .pre, field-few (c .before .before .before .before .before .before .before .args .s .counts .ins), field-few (c .before .before .before .before .before .before .before .args .s .counts .outs), c .before .before .before .put-field .ensures .end, c .before .before .before .put-field .kept .0)

@@ -17,9 +17,9 @@ use Rattle.model.specs.Refusals.{content, pass, refuse}
 use Rattle.model.specs.Validity.{validity}
 use Rattle.model.specs.declared.Rec.{Rec}
 use Rattle.model.specs.declared.Refusal.{Refusal}
-use Rattle.text_put.specs.Puts.{Put, over, splice}
+use Rattle.text_put.specs.Puts.{Put, Putting, over}
 use Rattle.text_put.specs.Digits.{digits-few}
-use Rattle.text_put.specs.Laws.{splice-nil, splice-over, splice-splice}
+use Rattle.text_put.specs.Laws.{put-over, putting-end, putting-on, putting-room, putting-start}
 use Rattle.textform.specs.Laws.Identity.{next-visited, walk-end}
 use Rattle.textform.specs.Laws.Nesting.{walk-next}
 use Rattle.textform.specs.Laws.Putting.{entry-length, fields-length}
@@ -146,9 +146,7 @@ pub record Measured (f : Visit → List ℕ) (its : List Rec) (left p d used : �
 -- the lines before place q are written over t₀
 pub record Filling (f : Visit → List ℕ) (its : List Rec) (t₀ t : List ℕ) (left p d q : ℕ) : Type 0 where
   pub shallow : d + left ≤ 1024
-  pub room : q + length (ahead f its left p d) ≤ length t
-  pub sized : length t ≡ length t₀
-  pub bytes : splice q (ahead f its left p d) t ≡ over (linesOf f (walk its)) t₀
+  pub lines : Putting t₀ 0 (linesOf f (walk its)) t q (ahead f its left p d)
 
 module _ (f : Visit → List ℕ) (s : List ℕ) (b : Whole s) where
   all : walkFrom (records s) (length s / 8) 0 0 ≡ walk (records s)
@@ -161,7 +159,7 @@ module _ (f : Visit → List ℕ) (s : List ℕ) (b : Whole s) where
 
   pub fill-start : (t : List ℕ) → length (linesOf f (walk (records s))) ≤ length t → Filling f (records s) t t (length s / 8) 0 0 0
   unfolding ahead
-  fill-start t h = record { shallow = omega (arith, b .few); room = rw all (omega arith); sized = refl; bytes = rw all (splice-over _ t) }
+  fill-start t h = record { shallow = omega (arith, b .few); lines = rw all (putting-start t 0 _ (omega arith)) }
 
 module _ (f : Visit → List ℕ) (its : List Rec) (left p d : ℕ) (v : Visit) (e : v ≡ nextFrom its d p 0) where
   ahead-on : 0 < left → v .number ≢ 0 → ahead f its left p d ≡ f v ++ ahead f its (left - 1) (v .number) (v .depth + 1)
@@ -183,22 +181,13 @@ module _ (f : Visit → List ℕ) (its : List Rec) (left p d : ℕ) (v : Visit) 
   measure-stop used w z = omega (arith, w .sum, ap length (ahead-stop z))
 
   pub fill-room : {t₀ t : List ℕ} {q : ℕ} → Filling f its t₀ t left p d q → 0 < left → v .number ≢ 0 → q + length (f v) ≤ length t
-  fill-room w l z = omega (arith, w .room, ap length (ahead-on l z), length-append (f v) (ahead f its (left - 1) (v .number) (v .depth + 1)))
+  fill-room w l z = putting-room (f v) (ahead f its (left - 1) (v .number) (v .depth + 1)) (w .lines) (ahead-on l z)
 
   pub fill-on : {t₀ t t′ : List ℕ} {q q′ : ℕ} → Filling f its t₀ t left p d q → 0 < left → v .number ≢ 0 → length t′ ≡ length t → Put t q (f v) t′ q′ → Filling f its t₀ t′ (left - 1) (v .number) (v .depth + 1) q′
-  fill-on {t₀} {t} {t′} {q} {q′} w l z k y =
-      let h : q′ + length (ahead f its (left - 1) (v .number) (v .depth + 1)) ≤ length t = omega (arith, w .room, y .end, ap length (ahead-on l z), length-append (f v) (ahead f its (left - 1) (v .number) (v .depth + 1))) in
-      record {
-        shallow = omega (arith, w .shallow, visit-deep its left p d v e);
-        room = omega arith;
-        sized = k ∙ w .sized;
-        bytes =
-            ap (splice q′ _) (y .bytes) ∙ splice-splice t q (f v) (ahead f its (left - 1) (v .number) (v .depth + 1)) q′ (y .end) h
-            ∙ ap (λ x. splice q x t) (sym (ahead-on l z)) ∙ w .bytes;
-      }
+  fill-on w l z k y = record { shallow = omega (arith, w .shallow, visit-deep its left p d v e); lines = putting-on (w .lines) (ahead-on l z) k y }
 
   pub fill-stop : {t₀ t : List ℕ} {q : ℕ} → Filling f its t₀ t left p d q → v .number ≡ 0 → t ≡ over (linesOf f (walk its)) t₀
-  fill-stop {t₀} {t} {q} w z = splice-nil q t ∙ ap (λ x. splice q x t) (sym (ahead-stop z)) ∙ w .bytes
+  fill-stop w z = put-over (putting-end (w .lines) (ahead-stop z)) .1
 
 module _ (f : Visit → List ℕ) (its : List Rec) (left p d : ℕ) (l : left ≤ 0) where
   ahead-none : ahead f its left p d ≡ []
@@ -209,7 +198,7 @@ module _ (f : Visit → List ℕ) (its : List Rec) (left p d : ℕ) (l : left �
   measure-end used w = omega (arith, w .sum, ap length ahead-none)
 
   pub fill-end : {t₀ t : List ℕ} {q : ℕ} → Filling f its t₀ t left p d q → t ≡ over (linesOf f (walk its)) t₀
-  fill-end {t₀} {t} {q} w = splice-nil q t ∙ ap (λ x. splice q x t) (sym ahead-none) ∙ w .bytes
+  fill-end w = put-over (putting-end (w .lines) ahead-none) .1
 
 -- room or no room
 pub written-none : (w t : List ℕ) (n : ℕ) → n ≡ length w → length t < n → Written w t t (NoRoom n)

@@ -22,7 +22,7 @@ next-requires : tie.Need-next-requires Inv-loop μ-loop
 next-requires c κs = c .before .before .before .before .before .pre .0
 
 same-length : tie.Need-same-length Inv-loop μ-loop
-same-length c = c .before .before .before .before .loop .inv .sized
+same-length c = c .before .before .before .before .loop .inv .lines .sized
 
 returns : tie.Need-returns Inv-loop μ-loop
 returns c = fill-stop _ _ _ _ _ (c .before .before .next .result) (c .before .before .next .ensures) (c .before .before .before .before .loop .inv) (c .if1 .taken)
@@ -53,7 +53,7 @@ loop-again c =
     fill-on _ _ _ _ _ (next .result) (next .ensures) (c .before .before .before .before .before .before .before .before .before .loop .inv) (c .before .before .before .before .before .before .before .before .loop-test .taken) (c .before .before .before .before .before .if1 .left) (put-visit .kept .0) (put-visit .ensures)
 
 same-length-2 : tie.Need-same-length-2 Inv-loop μ-loop
-same-length-2 c = c .before .loop .inv .sized
+same-length-2 c = c .before .loop .inv .lines .sized
 
 returns-2 : tie.Need-returns-2 Inv-loop μ-loop
 returns-2 c = fill-end _ _ _ _ _ (c .loop-test .left) (c .before .loop .inv)
