@@ -47,7 +47,8 @@ fn list_made(it: &[u8], policy: &[u8], table: &mut [u8], text: &mut [u8]) -> usi
     requires { ⌜ 1075200 ≤ length (now text) ⌝ }
     ensures { λ r. ⌜ (r ≡ length (listed (now (it .entry)) (now (policy .entry)) (now (table .entry))))
         × (now (text .exit) ≡ over (listed (now (it .entry)) (now (policy .entry)) (now (table .entry))) (now (text .entry)))
-        × (now (table .exit) ≡ makeAfter (now (it .entry)) (now (policy .entry)) (now (table .entry))) ⌝ }
+        × (now (table .exit) ≡ makeAfter (now (it .entry)) (now (policy .entry)) (now (table .entry)))
+        × (r ≤ length (now (text .exit))) ⌝ }
 {
     match analysis::make(it, policy, table) {
         Made::Refused(r) => put_refused(text, r),

@@ -18,7 +18,8 @@ fn room() -> [u8; 1061888] {
 fn show_text(it: &[u8], text: &mut [u8]) -> usize
     requires { ⌜ 1061888 ≤ length (now text) ⌝ }
     ensures { λ r. ⌜ (r ≡ length (textOr (validity (now (it .entry))) (textOf (records (now (it .entry))))))
-        × (now (text .exit) ≡ over (textOr (validity (now (it .entry))) (textOf (records (now (it .entry))))) (now (text .entry))) ⌝ }
+        × (now (text .exit) ≡ over (textOr (validity (now (it .entry))) (textOf (records (now (it .entry))))) (now (text .entry)))
+        × (r ≤ length (now (text .exit))) ⌝ }
 {
     match textwrite::write_text(it, text) {
         TextWritten::Refused(r) => text_put::put_line(text, b"refused ", r.number as u16, r.record),

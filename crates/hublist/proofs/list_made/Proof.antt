@@ -1,6 +1,7 @@
 -- `hublist::list_made` meets its contract: by the answer of the maker, done or refused.
 use borrow.Author.Needs.{needs}
-use Rattle.hublist.specs.Listed.{made-done, made-refused}
+use native.Mathlib.Omega.{arith}
+use Rattle.hublist.specs.Listed.{listed-fits, made-done, made-refused}
 use Rattle.hublist.proofs.list_made.Statement.{statement}
 use Rattle.hublist.proofs.list_made.Tie as tie
 
@@ -29,7 +30,7 @@ returns : tie.Need-returns
 returns c =
     let make = c .before .before .before .before .before .before .before .before .before .make in
     let t = made-refused _ (c .before .before .before .before .before .before .before .before .before .before .before .before .before .before .before .args .policy .now) _ (make .result) (make .ensures .0) _ (c .before .before .before .before .before .r .given .1) (c .before .before .put-refused .ensures) in
-    (t .0, t .1, make .ensures .1)
+    (t .0, t .1, make .ensures .1, omega (arith, listed-fits _ _ _ (t .0), c .before .before .before .before .before .before .before .before .before .before .before .before .before .before .before .pre, c .before .before .put-refused .kept .0))
 
 same-length-3 : tie.Need-same-length-3
 same-length-3 c = search needs
@@ -41,7 +42,7 @@ returns-2 : tie.Need-returns-2
 returns-2 c =
     let make = c .before .before .before .before .before .before .before .before .before .make in
     let t = made-done _ (c .before .before .before .before .before .before .before .before .before .before .before .before .before .before .before .args .policy .now) _ (make .result) (make .ensures .0) _ (c .before .before .before .before .before .enum-told .given .1) _ _ (make .ensures .1) (c .before .before .list .ensures) in
-    (t .0, t .1, make .ensures .1)
+    (t .0, t .1, make .ensures .1, omega (arith, listed-fits _ _ _ (t .0), c .before .before .before .before .before .before .before .before .before .before .before .before .before .before .before .pre, c .before .before .list .kept .1 .1 .0))
 
 pub list-made-spec : {M : Type 1} → statement M
 list-made-spec =

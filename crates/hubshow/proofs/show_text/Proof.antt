@@ -2,7 +2,7 @@
 use borrow.Author.Needs.{needs}
 use native.Mathlib.Omega.{arith}
 use Rattle.model.specs.Listing.{refusedWord}
-use Rattle.textform.specs.Laws.Room.{never, refused, text-short, wrote}
+use Rattle.textform.specs.Laws.Room.{never, refused, text-fits, text-short, wrote}
 use Rattle.textform.specs.Writing.{writeAfter, writeAnswer}
 use Rattle.hubshow.proofs.show_text.Statement.{statement}
 use Rattle.hubshow.proofs.show_text.Tie as tie
@@ -33,14 +33,18 @@ same-length c = search needs
 
 returns : tie.Need-returns
 unfolding refusedWord writeAnswer writeAfter
-returns c = refused _ _ _ _ (c .before .before .before .before .before .before .before .before .before .before .before .write-text .result) (c .before .before .before .before .before .before .before .before .before .before .before .write-text .ensures .0) (c .before .before .before .before .before .before .before .before .before .before .before .write-text .ensures .1) (λ p. omega (arith, text-short _ p, c .before .before .before .before .before .before .before .before .before .before .before .before .before .before .before .pre)) _ (c .before .before .before .before .before .before .before .r .given .1) (c .before .before .put-line .ensures)
+returns c =
+    let t = refused _ _ _ _ (c .before .before .before .before .before .before .before .before .before .before .before .write-text .result) (c .before .before .before .before .before .before .before .before .before .before .before .write-text .ensures .0) (c .before .before .before .before .before .before .before .before .before .before .before .write-text .ensures .1) (λ p. omega (arith, text-short _ p, c .before .before .before .before .before .before .before .before .before .before .before .before .before .before .before .pre)) _ (c .before .before .before .before .before .before .before .r .given .1) (c .before .before .put-line .ensures) in
+    (t .0, t .1, omega (arith, text-fits _ (t .0), c .before .before .before .before .before .before .before .before .before .before .before .before .before .before .before .pre, c .before .before .before .before .before .before .before .before .before .before .before .write-text .kept .1 .0, c .before .before .put-line .kept .0))
 
 same-length-2 : tie.Need-same-length-2
 same-length-2 c = search needs
 
 returns-2 : tie.Need-returns-2
 unfolding writeAnswer writeAfter
-returns-2 c = wrote _ _ _ _ (c .before .before .before .before .before .write-text .result) (c .before .before .before .before .before .write-text .ensures .0) (c .before .before .before .before .before .write-text .ensures .1) (λ p. omega (arith, text-short _ p, c .before .before .before .before .before .before .before .before .before .pre)) _ (c .before .len .given .1)
+returns-2 c =
+    let t = wrote _ _ _ _ (c .before .before .before .before .before .write-text .result) (c .before .before .before .before .before .write-text .ensures .0) (c .before .before .before .before .before .write-text .ensures .1) (λ p. omega (arith, text-short _ p, c .before .before .before .before .before .before .before .before .before .pre)) _ (c .before .len .given .1) in
+    (t .0, t .1, omega (arith, text-fits _ (t .0), c .before .before .before .before .before .before .before .before .before .pre, c .before .before .before .before .before .write-text .kept .1 .0))
 
 same-length-3 : tie.Need-same-length-3
 same-length-3 c = search needs
