@@ -1,12 +1,12 @@
 -- The text that is filled is the one shown, for a screen that is done and for one that is refused.
 use Prim.Native.Nat.{_+_, _≤_, ℕ}
-use lib.ListN.{length}
+use lib.ListN.{drop, length, length-append, length-drop}
 use mathlib.Core.Bool.{true}
 use mathlib.Core.List.{List, []}
 use mathlib.Core.Path.{_∙_, _≡_, ap, sym}
 use native.Mathlib.Omega.{arith}
 use Rattle.listing.specs.Lines.{shown}
-use Rattle.listing.specs.Short.{done-script, done-short}
+use Rattle.listing.specs.Short.{done-script, done-short, shown-short}
 use Rattle.model.specs.Calls.{screenAnswer, screenAnswers}
 use Rattle.model.specs.Listing.{listing, stepLines}
 use Rattle.model.specs.Numbers.{refusal, screenedAs}
@@ -37,3 +37,10 @@ module _ (s policy z a : List ℕ) (r : Screened) (e : screenedAs r ≡ screenAn
       (n ≡ length (shown s policy z a)) × (t′ ≡ over (shown s policy z a) t)
   unfolding shown screenedAs refusal listing
   text-refused y d p = put-over (put-as (ap (λ u. listing u (stepsIn z) (screenAnswers s policy z a)) (sym (ap screenedAs d) ∙ e)) p)
+
+-- the text keeps its length
+pub text-sized : (s policy z a t : List ℕ) {t′ : List ℕ} → t′ ≡ over (shown s policy z a) t → 15408 ≡ length t → 15408 ≡ length t′
+unfolding over
+text-sized s policy z a t e h =
+    let w = shown s policy z a in
+    omega (arith, ap length e, length-append w (drop (length w) t), length-drop (length w) t, shown-short s policy z a)

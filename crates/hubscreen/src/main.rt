@@ -52,15 +52,15 @@ fn put_screen(text: &mut [u8], s: Screen, script: &[u8], answers: &[u8]) -> usiz
     listing::put_counts(text, end, s)
 }
 
-// Screens what is lent, and fills the text with what the program writes of it; answers the text's length. Inner.
+// Screens what is lent and fills the text with what the program writes of it; answers how many bytes that is. The rest of
+// the text stays as it was.
 fn screen_text(
     it: &mut [u8],
     policy: &[u8],
     script: &[u8],
     answers: &mut [u8],
-    text: &mut [u8],
+    text: &mut [u8; 15408],
 ) -> usize
-    requires { ⌜ 15408 ≤ length (now text) ⌝ }
     ensures { λ r. ⌜ (r ≡ length (shown (now (it .entry)) (now (policy .entry)) (now (script .entry)) (now (answers .entry))))
         × (now (text .exit) ≡ over (shown (now (it .entry)) (now (policy .entry)) (now (script .entry)) (now (answers .entry))) (now (text .entry)))
         × (now (it .exit) ≡ screenAfter (now (it .entry)) (now (policy .entry)) (now (script .entry)) (now (answers .entry)))

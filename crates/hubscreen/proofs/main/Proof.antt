@@ -3,6 +3,7 @@ use borrow.Author.Needs.{needs}
 use lib.Seq.{length-take-le}
 use mathlib.Core.Path.{sym}
 use native.Mathlib.Omega.{arith}
+use Rattle.hubscreen.specs.Laws.{text-sized}
 use Rattle.hubscreen.specs.Lent.{answers-few}
 use Rattle.listing.specs.Short.{shown-fits}
 use Rattle.hubscreen.proofs.main.Statement.{statement}
@@ -65,17 +66,14 @@ array-borrow-prefix-answers c = omega (arith, c .before .before .before .answers
 slice-aggregate-screen-text-4 : tie.Need-slice-aggregate-screen-text-4
 slice-aggregate-screen-text-4 c = sym (length-take-le _ _ (omega (arith, c .before .before .before .before .answers-for .ensures, answers-few (c .before .before .before .before .before .before .load .result .more) (c .before .before .before .before .before .before .load .result .len), c .before .before .before .before .before .before .load .ensures .counts .0, c .before .before .before .before .before .before .load .kept .1 .0)))
 
-slice-aggregate-screen-text-5 : tie.Need-slice-aggregate-screen-text-5
-slice-aggregate-screen-text-5 c = search needs
-
 screen-text-requires : tie.Need-screen-text-requires
 screen-text-requires c κs = search needs
 
 slice-aggregate-first : tie.Need-slice-aggregate-first
-slice-aggregate-first c = search needs
+slice-aggregate-first c = text-sized _ _ _ _ _ (c .before .before .before .screen-text .ensures .1) (c .before .before .before .before .before .before .before .before .before .before .before .before .before .before .before .before .before .before .before .before .before .before .room .ensures)
 
 first-requires : tie.Need-first-requires
-first-requires c κs = omega (arith, shown-fits _ _ _ _ (c .before .before .before .before .screen-text .ensures .0))
+first-requires c κs = omega (arith, shown-fits _ _ _ _ (c .before .before .before .screen-text .ensures .0), text-sized _ _ _ _ _ (c .before .before .before .screen-text .ensures .1) (c .before .before .before .before .before .before .before .before .before .before .before .before .before .before .before .before .before .before .before .before .before .before .room .ensures))
 
 returns : tie.Need-returns
 returns c = search needs
@@ -103,7 +101,6 @@ main-spec =
     slice-aggregate-screen-text-3
     array-borrow-prefix-answers
     slice-aggregate-screen-text-4
-    slice-aggregate-screen-text-5
     screen-text-requires
     slice-aggregate-first
     first-requires

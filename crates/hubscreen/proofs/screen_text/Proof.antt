@@ -17,7 +17,7 @@ enum-known-s : tie.Need-enum-known-s
 enum-known-s c = search needs
 
 put-screen-requires : tie.Need-put-screen-requires
-put-screen-requires c κs = room-done _ (c .before .before .before .before .before .before .before .before .before .before .before .before .before .before .before .before .before .args .policy .now) _ _ (c .before .before .before .before .before .before .before .before .before .screen .result) (c .before .before .before .before .before .before .before .before .before .screen .ensures .0) _ (c .before .before .before .s .given .1) _ (c .before .before .before .before .before .before .before .before .before .screen .ensures .2) (c .before .before .before .before .before .before .before .before .before .screen .kept .1 .1 .1 .0) _ (c .before .before .before .before .before .before .before .before .before .before .before .before .before .before .before .before .before .pre)
+put-screen-requires c κs = room-done _ (c .before .before .before .before .before .before .before .before .before .before .before .before .before .before .before .before .args .policy .now) _ _ (c .before .before .before .before .before .before .before .before .before .screen .result) (c .before .before .before .before .before .before .before .before .before .screen .ensures .0) _ (c .before .before .before .s .given .1) _ (c .before .before .before .before .before .before .before .before .before .screen .ensures .2) (c .before .before .before .before .before .before .before .before .before .screen .kept .1 .1 .1 .0) _ (search needs)
 
 same-length : tie.Need-same-length
 same-length c = search needs
@@ -25,28 +25,22 @@ same-length c = search needs
 same-length-2 : tie.Need-same-length-2
 same-length-2 c = search needs
 
-same-length-3 : tie.Need-same-length-3
-same-length-3 c = search needs
-
 returns : tie.Need-returns
 returns c =
-    let screen = c .before .before .before .before .before .before .before .before .before .before .before .screen in
-    let t = text-refused _ (c .before .before .before .before .before .before .before .before .before .before .before .before .before .before .before .before .before .before .before .args .policy .now) _ _ (screen .result) (screen .ensures .0) _ (c .before .before .before .before .before .r .given .1) (c .before .before .put-refused .ensures) in
+    let screen = c .before .before .before .before .before .before .before .before .before .screen in
+    let t = text-refused _ (c .before .before .before .before .before .before .before .before .before .before .before .before .before .before .before .before .args .policy .now) _ _ (screen .result) (screen .ensures .0) _ (c .before .before .before .r .given .1) (c .put-refused .ensures) in
     (t .0, t .1, screen .ensures .1, screen .ensures .2)
+
+same-length-3 : tie.Need-same-length-3
+same-length-3 c = search needs
 
 same-length-4 : tie.Need-same-length-4
 same-length-4 c = search needs
 
-same-length-5 : tie.Need-same-length-5
-same-length-5 c = search needs
-
-same-length-6 : tie.Need-same-length-6
-same-length-6 c = search needs
-
 returns-2 : tie.Need-returns-2
 returns-2 c =
-    let screen = c .before .before .before .before .before .before .before .before .before .before .before .before .screen in
-    let t = text-done _ (c .before .before .before .before .before .before .before .before .before .before .before .before .before .before .before .before .before .before .before .before .args .policy .now) _ _ (screen .result) (screen .ensures .0) _ (c .before .before .before .before .before .before .s .given .1) _ (screen .ensures .2) (c .before .before .put-screen .ensures) in
+    let screen = c .before .before .before .before .before .before .before .before .before .before .screen in
+    let t = text-done _ (c .before .before .before .before .before .before .before .before .before .before .before .before .before .before .before .before .before .args .policy .now) _ _ (screen .result) (screen .ensures .0) _ (c .before .before .before .before .s .given .1) _ (screen .ensures .2) (c .put-screen .ensures) in
     (t .0, t .1, screen .ensures .1, screen .ensures .2)
 
 pub screen-text-spec : {M : Type 1} → statement M
@@ -60,9 +54,7 @@ screen-text-spec =
     put-screen-requires
     same-length
     same-length-2
-    same-length-3
     returns
+    same-length-3
     same-length-4
-    same-length-5
-    same-length-6
     returns-2)
