@@ -1,28 +1,25 @@
 -- What the program lends of what its files hold, and that it gives the text that the files ask for.
 use Prim.Native.Nat.{_%_, _+_, _/_, _<_, _≤_, ℕ}
-use borrow.Author.Tests.{eqb-true, leb-true, lt-leb, ne-eqb}
-use lib.Dec.{eqb}
-use lib.ListN.{length, length-replicate, replicate}
+use borrow.Author.Tests.{eqb-true, le-leb, leb-true, lt-leb, ne-eqb}
+use lib.Dec.{eqb, leb}
+use lib.ListN.{length, length-replicate, replicate, take}
+use lib.Seq.{length-take-le, take-all}
 use mathlib.Core.Bool.{Bool, and-false, false, true}
-use mathlib.Core.List.{List}
+use mathlib.Core.List.{List, []}
 use mathlib.Core.Option.{Option}
 use mathlib.Core.Path.{_∙_, _≡_, ap, refl, sym}
 use native.Mathlib.Decide.{decLe}
 use native.Mathlib.Omega.{arith}
 use Rattle.itinerary.specs.Laws.{valid-few, valid-size}
 use Rattle.listing.specs.Lines.{shown}
-use Rattle.model.specs.Analysis.{free}
 use Rattle.model.specs.Calls.{screenAnswer, screenAnswers, screening}
 use Rattle.model.specs.Laws.Checks.{need-pass, then-pass}
 use Rattle.model.specs.Laws.WellFormed.{and-left, and-right}
-use Rattle.model.specs.Least.{leastTable}
 use Rattle.model.specs.Listing.{contentOf, hubscreen, listing, written}
-use Rattle.model.specs.Records.{records}
-use Rattle.model.specs.Refusals.{Check, answer, content, pass, refuse}
-use Rattle.model.specs.Scripts.{afterList, answersOf, countsOf, notGone, outcomes, scriptRight, stepsIn}
-use Rattle.model.specs.Tables.{bits, parts, policyRight, total}
+use Rattle.model.specs.Refusals.{Check, answer, content, pass, refuse, refused}
+use Rattle.model.specs.Scripts.{scriptRight}
+use Rattle.model.specs.Tables.{policyRight}
 use Rattle.model.specs.Validity.{sizeRight, validity}
-use Rattle.model.specs.Verdicts.{verdictOf}
 
 -- how many answers are lent for a script of which n bytes are there, by whether it has more
 unfoldable pub answersFor : Bool → ℕ → ℕ
@@ -39,10 +36,26 @@ pub record Part (max : ℕ) (file part : List ℕ) : Type 0 where
   pub whole : length file ≤ max → part ≡ file
   pub long : max < length file → length part ≡ max + 1
 
--- the part and the answers lent of a script: all of it with one answer a step, or its first 4,096 bytes with none
+-- the part and the answers lent of a script: all of it with one answer a step, or 4,096 bytes of it with none
 pub record ScriptPart (file part answers : List ℕ) : Type 0 where
   pub whole : length file ≤ 4096 → (part ≡ file) × (length answers ≡ length file / 4)
   pub long : 4096 < length file → (length part ≡ 4096) × (length answers ≡ 0)
+
+-- so are the first bytes of a file, with one byte too many where it is longer; and those of a script, with the answers that
+-- the program lends by whether it has more
+pub part-of : (max : ℕ) (file : List ℕ) → Part max file (take (max + 1) file)
+part-of max file = record { whole = λ l. take-all (max + 1) file (omega arith); long = λ l. length-take-le (max + 1) file (omega arith) }
+
+pub script-part-of : (file answers : List ℕ) (more : Bool) → more ≡ leb 4097 (length file) → length answers ≡ answersFor more (length (take 4096 file)) →
+    ScriptPart file (take 4096 file) answers
+unfolding answersFor
+script-part-of file answers more e k = record {
+  whole = λ l.
+      let n : more ≡ false = e ∙ lt-leb 4097 (length file) (omega arith) in
+      let t = take-all 4096 file l in
+      (t, k ∙ ap (λ b. answersFor b (length (take 4096 file))) n ∙ ap (λ x. length x / 4) t);
+  long = λ l. let y : more ≡ true = e ∙ le-leb 4097 (length file) (omega arith) in (length-take-le 4096 file (omega arith), k ∙ ap (λ b. answersFor b (length (take 4096 file))) y);
+}
 
 -- each check says the same of the part as of the file
 too-long : (s : List ℕ) → 8192 < length s → validity s ≡ refuse 1 0
@@ -98,34 +111,32 @@ module _ {S s P p Z z a : List ℕ} (e : Part 8192 S s) (f : Part 64 P p) (g : S
       let few : length Z ≤ 4096 = leb-true _ _ (and-left _ _ (and-right (eqb (length Z % 4) 0) _ script)) in
       (e .whole (valid-few S (c .0)), f .whole (omega arith), g .whole few .0)
 
--- the text by the outcome of the checks; a refusal's line shows neither steps nor answers
-shownBy : Check → List ℕ → List ℕ → List ℕ → List ℕ → List ℕ
-shownBy c s policy z a =
-    let table = leastTable free policy (records s) in
-    listing (answer c (record {
-      verdict = verdictOf (parts (bits table)) policy;
-      ones = total table;
-      counts = countsOf (outcomes free s (stepsIn z));
-      left = notGone (records (afterList free s (stepsIn z)));
-    })) (stepsIn z) (content c (answersOf free s (stepsIn z)) a)
+-- a refusal's line shows neither steps nor answers
+shown-refused : (s p z a : List ℕ) (n r : ℕ) → screening s p z a ≡ refuse n r → shown s p z a ≡ listing (refused n r) [] []
+unfolding shown screenAnswer screenAnswers answer content listing
+shown-refused s p z a n r h = rw (h, answer)
 
-shown-by : (s policy z a : List ℕ) → shown s policy z a ≡ shownBy (screening s policy z a) s policy z a
-unfolding shown shownBy screenAnswer screenAnswers
-shown-by s policy z a = refl
+-- where the checks pass, what the answers held doesn't matter
+shown-passed : (s p z a a′ : List ℕ) → screening s p z a ≡ pass → screening s p z a′ ≡ pass → shown s p z a ≡ shown s p z a′
+unfolding shown screenAnswer screenAnswers answer content
+shown-passed s p z a a′ h k = rw (h, k, answer)
 
-same-by : (c : Check) {s policy z s′ policy′ z′ : List ℕ} (a a′ : List ℕ) → (c ≡ pass → (s ≡ s′) × (policy ≡ policy′) × (z ≡ z′)) → shownBy c s policy z a ≡ shownBy c s′ policy′ z′ a′
-unfolding shownBy answer content listing
-same-by pass a a′ f = let e = f refl in rw (e .0, e .1, e .2)
-same-by (refuse n r) a a′ f = refl
+-- the parts give the text of the whole
+lent-shown : {S s P p Z z a : List ℕ} (A : List ℕ) → A ≡ replicate (length Z / 4) 0 → Part 8192 S s → Part 64 P p → ScriptPart Z z a → shown s p z a ≡ shown S P Z A
+lent-shown {S} {s} {P} {p} {Z} {z} {a} A q e f g = go (screening S P Z A) refl
+  where
+    same : screening s p z a ≡ screening S P Z A
+    same = rw q (same-checks e f g)
+
+    go : (c : Check) → screening S P Z A ≡ c → shown s p z a ≡ shown S P Z A
+    go pass h =
+        let w = whole-parts e f g (rw q at h) in
+        let k : screening S P Z a ≡ pass = rw (w .0, w .1, w .2) at (same ∙ h) in
+        rw (w .0, w .1, w .2) (shown-passed S P Z a A k h)
+    go (refuse n r) h = shown-refused s p z a n r (same ∙ h) ∙ sym (shown-refused S P Z A n r h)
 
 -- Whatever the files hold, the parts that the program lends of them give the text that document 01 asks for.
 pub lent-hubscreen : (itinerary policy script : Option (List ℕ)) (s p z a : List ℕ) →
     Part 8192 (contentOf itinerary) s → Part 64 (contentOf policy) p → ScriptPart (contentOf script) z a → shown s p z a ≡ hubscreen itinerary policy script
 unfolding hubscreen written shown
-lent-hubscreen itinerary policy script s p z a e f g =
-    let S = contentOf itinerary in
-    let P = contentOf policy in
-    let Z = contentOf script in
-    let A : List ℕ = replicate (length Z / 4) 0 in
-    let same = same-checks e f g in
-    shown-by s p z a ∙ ap (λ c. shownBy c s p z a) same ∙ same-by (screening S P Z A) a A (whole-parts e f g) ∙ sym (shown-by S P Z A)
+lent-hubscreen itinerary policy script s p z a e f g = lent-shown (replicate (length (contentOf script) / 4) 0) refl e f g
