@@ -9,6 +9,6 @@ pub mod Placing
 pub mod Putting
 pub mod Walking
 pub mod Listing
-pub mod Longest
 pub mod Room
+pub mod Longest
 pub mod Examples

@@ -13,7 +13,7 @@ use Rattle.model.specs.Records.{at, encode, gone}
 use Rattle.text_put.specs.Puts.{over}
 use Rattle.textform.specs.Laws.Lines.{Got, line-good, scan-bad, scan-good, scan-nested}
 use Rattle.textform.specs.Laws.Nesting.{length-placed, none-length}
-use Rattle.textform.specs.Reading.{Scan, before, causeOf, lineRead, linesAnswer, noneAbove, placed, placedFrom, readAfter, readAnswer, readBy, readInto, recordOf, roomIn, scan, scanAnswer, scanFrom}
+use Rattle.textform.specs.Reading.{Scan, before, causeOf, lineRead, linesAnswer, noneAbove, placed, placedFrom, readAfter, readBy, readInto, recordOf, roomIn, scan, scanAnswer, scanFrom}
 use Rattle.textform.specs.Inner.{scanned}
 use Rattle.textform.specs.declared.Line.{Line}
 use Rattle.textform.specs.declared.LineRead.{LineRead}

@@ -5,7 +5,7 @@ use Prim.Native.Nat.{_*_, _+_, _≤_, suc, zero, ℕ}
 use borrow.Author.Tests.{le-leb, leb-true}
 use lib.Dec.{eqb, leb}
 use lib.ListN.{length, length-append, length-map}
-use mathlib.Core.Bool.{Bool, _&&_, true}
+use mathlib.Core.Bool.{Bool, _&&_, false, true}
 use mathlib.Core.List.{List, [], _++_, _∷_, map}
 use mathlib.Core.Option.{Option, none, some}
 use mathlib.Core.Path.{_∙_, _≡_, refl, sym}
@@ -27,9 +27,10 @@ use Rattle.textform.specs.Laws.Nesting.{Nested, Right, cons, nil}
 use Rattle.textform.specs.Laws.Putting.{entry-length, fields-length}
 use Rattle.textform.specs.Laws.Walking.{mark-short}
 use Rattle.textform.specs.Lines.{ambientWord, entry, inWord, kindWord, lineBytes, openWord, outWord, render}
-use Rattle.textform.specs.Reading.{readAnswer, readBy, roomIn, scan, scanAnswer, scanFrom}
+use Rattle.textform.specs.Reading.{lengthTold, linesAnswer, longest, readAnswer, readBy, roomIn, scan, scanAnswer, scanFrom}
 use Rattle.textform.specs.Writing.{fits, lineAt, linesOf, listLine, listOf, mark, overIf, textOf, textOr, told, toldAfter, walk}
 use Rattle.textform.specs.declared.Line.{Line}
+use Rattle.textform.specs.declared.TextRead.{TextRead}
 use Rattle.textform.specs.declared.TextRead.the-variants.{Fault, Records}
 use Rattle.textform.specs.declared.TextWritten.{TextWritten}
 use Rattle.textform.specs.declared.TextWritten.the-variants.{Length, NoRoom, Refused}
@@ -74,6 +75,13 @@ render-short nil = omega arith
 render-short {d} (cons {l = l} {ls = ls} h r n) =
     omega (arith, length-append (lineBytes l) (render ls), line-short l r, render-short n, budget-more (length ls) (length ls) (suc (l .depth)) (suc d) (omega arith) (omega arith))
 
+-- 1,024 lines at most
+pub lines-short : {ls : List Line} → Nested 0 ls → length ls ≤ 1024 → length (render ls) ≤ longest
+unfolding budget
+lines-short {ls} n h =
+    let most : budget 1024 0 ≡ longest = refl in
+    omega (arith, render-short n, budget-more (length ls) 1024 0 0 h (omega arith), most)
+
 -- the lines of a listing
 list-more : (its : List Rec) (hides : ℕ → Bool) (vs : List Visit) → length (linesOf (listLine its hides) vs) ≤ length (render (map (lineAt its) vs)) + 13 * length vs
 unfolding linesOf listLine render lineBytes
@@ -86,11 +94,8 @@ list-more its hides (v ∷ vs) =
 
 module _ (s : List ℕ) (v : validity s ≡ pass) where
   pub text-short : length (textOf (records s)) ≤ 1061888
-  unfolding textOf budget
-  text-short =
-      let w = written-nested s v in
-      let most : budget 1024 0 ≡ 1061888 = refl in
-      omega (arith, render-short (w .0), budget-more _ 1024 0 0 (w .1) (omega arith))
+  unfolding textOf
+  text-short = let w = written-nested s v in lines-short (w .0) (w .1)
 
   pub list-short : (S : ℕ → Bool) → length (listOf (records s) S) ≤ 1075200
   unfolding listOf textOf
@@ -146,16 +151,23 @@ or-short (refuse m i) w n h f = omega (arith, line-few m i)
 pub text-fits : (s : List ℕ) {n : ℕ} → n ≡ length (textOr (validity s) (textOf (records s))) → n ≤ 1061888
 text-fits s e = omega (arith, or-short (validity s) (textOf (records s)) 1061888 (omega arith) (text-short s))
 
+-- a length that is told changes no count
+length-told : (k : ℕ) (b : Bool) (r : TextRead) → Records k ≡ lengthTold b r → Records k ≡ r
+unfolding lengthTold
+length-told k true r e = e
+length-told k false (Records n) e = e
+length-told k false (Fault line cause) e = let u : _≡_ {A = ℕ} 0 1 = cc in absurd (omega arith)
+
 -- the records read have room in the bytes lent
 pub read-fits : (text it : List ℕ) (k : ℕ) → Records k ≡ readAnswer text it → 8 * k ≤ length it
-unfolding readAnswer scanAnswer readBy roomIn scan
+unfolding readAnswer linesAnswer scanAnswer readBy roomIn scan
 read-fits text it k e = go (scanFrom (roomIn it) 0 text .fault) refl
   where
     go : (f : Option ℕ) → scanFrom (roomIn it) 0 text .fault ≡ f → 8 * k ≤ length it
     go none q =
-        let l : Records k ≡ Records (length (scanFrom (roomIn it) 0 text .lines)) = e ∙ rw q in
+        let l : Records k ≡ Records (length (scanFrom (roomIn it) 0 text .lines)) = length-told k _ _ e ∙ rw q in
         let j : k ≡ length (scanFrom (roomIn it) 0 text .lines) = cc in
         omega (arith, scan-nested (roomIn it) 0 text .1)
     go (some cause) q =
-        let l : Records k ≡ Fault (suc (length (scanFrom (roomIn it) 0 text .lines))) cause = e ∙ rw q in
+        let l : Records k ≡ Fault (suc (length (scanFrom (roomIn it) 0 text .lines))) cause = length-told k _ _ e ∙ rw q in
         let u : _≡_ {A = ℕ} 0 1 = cc in absurd (omega arith)
