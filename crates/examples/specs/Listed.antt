@@ -33,7 +33,8 @@ use Rattle.model.specs.Scripts.{afterList, answersOf, countsOf, doneBy, howMany
 use Rattle.model.specs.Steps.{answerOf, decide, dissolve, dissolved, fit, move, outcome, outcomeBy, place, placed, ready, rewritten, stands, stepBytes}
 use Rattle.model.specs.Tables.{bitAt, bits, isBoundary, isHigh, parts, placeH, placeI, placeS, policyRight, tableSized, testBit, total}
 use Rattle.model.specs.Validity.{blank, climbCheck, goneRight, kindRight, labelBy, labelIn, labelRight, nameBy, nameRight, parentRight, recordCheck, sizeRight, spareRight, validity}
-use Rattle.model.specs.Verdicts.{alike, growing, grown, inR, joins, labelOf, marked, opening, reached, verdictBy, verdictOf}
+use Rattle.model.specs.Verdicts.{alike, growing, grown, inR, joins, marked, opening, reached, verdictBy, verdictOf}
+use Rattle.model.specs.Numbers.{labelOf}
 use Rattle.model.specs.declared.Verdict.{Verdict}
 
 -- what the examples compute with: to unfold this is to unfold all that its line names

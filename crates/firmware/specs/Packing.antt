@@ -7,11 +7,10 @@ use mathlib.Core.Bool.{Bool, _&&_, false, true}
 use mathlib.Core.List.{List}
 use Rattle.model.specs.Refusals.{Answer, done, refused}
 use Rattle.model.specs.Tables.{tableSized}
-use Rattle.model.specs.Verdicts.{labelOf}
+use Rattle.model.specs.Numbers.{labelOf, verdictCode}
 use Rattle.model.specs.declared.Counts.{Counts}
 use Rattle.model.specs.declared.Screen.{Screen}
 use Rattle.model.specs.declared.Verdict.{Verdict}
-use Rattle.model.specs.declared.Verdict.the-variants.{Exposed, Hinted, Sealed}
 
 -- a result that is done, with its six values
 unfoldable pub values : ℕ → ℕ → ℕ → ℕ → ℕ → ℕ → HubResult
@@ -37,12 +36,6 @@ single n = values n 0 0 0 0 0
 -- ins, outs, opens
 unfoldable pub counts : Counts → HubResult
 counts c = values (c .ins) (c .outs) (c .opens) 0 0 0
-
--- exposed 1, hinted 2, sealed 3
-unfoldable pub verdictCode : Verdict → ℕ
-verdictCode (Exposed k) = 1
-verdictCode (Hinted k) = 2
-verdictCode Sealed = 3
 
 -- the verdict's code and its label, 0 if sealed
 unfoldable pub verdicts : Verdict → HubResult

@@ -10,9 +10,8 @@ use model::Validated;
 use model::Verdict;
 ghost use mathlib.Core.Path.{_≡_};
 ghost use Rattle.model.specs.Calls.{checkAnswer, containerAnswer, makeAfter, makeAnswer, runAfter, runAnswer, runAnswers, screenAfter, screenAnswer, screenAnswers, sheetAfter, sheetAnswer, stepAfter, stepAnswer, validateAnswer, verdictAnswer};
-ghost use Rattle.model.specs.Numbers.{containedAs, judgedAs, madeAs, performedAs, ranAs, screenedAs, validatedAs};
-ghost use Rattle.model.specs.Verdicts.{labelOf};
-ghost use Rattle.firmware.specs.Packing.{bare, counts, labelAfter, packed, refusalOf, rows, screens, single, values, verdictCode, verdicts};
+ghost use Rattle.model.specs.Numbers.{containedAs, judgedAs, labelOf, madeAs, performedAs, ranAs, screenedAs, validatedAs, verdictCode};
+ghost use Rattle.firmware.specs.Packing.{bare, counts, labelAfter, packed, refusalOf, rows, screens, single, values, verdicts};
 
 // An answer: number 0 and up to six values where the call is done; the refusal's number and record where it is refused.
 #[repr(C)]

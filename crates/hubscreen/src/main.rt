@@ -13,10 +13,9 @@ ghost use Rattle.hubscreen.specs.Lent.{answersFor};
 ghost use Rattle.listing.specs.Lines.{shown};
 ghost use Rattle.model.specs.Calls.{screenAfter, screenAnswers};
 ghost use Rattle.model.specs.Listing.{field, lastField, listing, stepLines, verdictWord};
-ghost use Rattle.model.specs.Numbers.{refusal};
+ghost use Rattle.model.specs.Numbers.{labelOf, refusal};
 ghost use Rattle.model.specs.Refusals.{done};
 ghost use Rattle.model.specs.Scripts.{scriptRight, stepsIn};
-ghost use Rattle.model.specs.Verdicts.{labelOf};
 ghost use Rattle.text_put.specs.Puts.{Put, over};
 
 // Puts line one: verdict, its label (0 if sealed), bits set; inner.

@@ -13,7 +13,7 @@ use Rattle.model.specs.Listing.{endLine, endWord, field, lastField, listing, st
 use Rattle.model.specs.Records.{byte, word}
 use Rattle.model.specs.Refusals.{done}
 use Rattle.model.specs.Scripts.{Step, stepIn, stepsIn}
-use Rattle.model.specs.Verdicts.{labelOf}
+use Rattle.model.specs.Numbers.{labelOf}
 use Rattle.model.specs.declared.Screen.{Screen}
 use Rattle.model.specs.declared.Verdict.{Verdict}
 use Rattle.model.specs.declared.Verdict.the-variants.{Exposed, Hinted, Sealed}

@@ -16,7 +16,7 @@ use Rattle.model.specs.Records.{Capability, records}
 use Rattle.model.specs.Refusals.{Answer, content, done, pass, refused}
 use Rattle.model.specs.Scripts.{Step, answersOf, outcomes, scriptRight, stepsIn}
 use Rattle.model.specs.Steps.{answerOf, decide, outcome, outcomeBy, stepBytes}
-use Rattle.model.specs.Verdicts.{labelOf}
+use Rattle.model.specs.Numbers.{labelOf}
 use Rattle.model.specs.declared.Rec.{Rec}
 use Rattle.model.specs.declared.Screen.{Screen}
 use Rattle.text_put.specs.Digits.{digits-two}

@@ -12,6 +12,7 @@ use Rattle.model.specs.declared.Screened.{Screened}
 use Rattle.model.specs.declared.Screened.the-variants as screened
 use Rattle.model.specs.declared.Refusal.{Refusal}
 use Rattle.model.specs.declared.Verdict.{Verdict}
+use Rattle.model.specs.declared.Verdict.the-variants as verdict
 use Rattle.model.specs.declared.Counts.{Counts}
 use Rattle.model.specs.declared.Performed.{Performed}
 use Rattle.model.specs.declared.Performed.the-variants as performed
@@ -73,3 +74,15 @@ ranAs (ran.Refused r) = refusal r
 unfoldable pub screenedAs : Screened → Answer Screen
 screenedAs (screened.Done x) = done x
 screenedAs (screened.Refused r) = refusal r
+
+-- which verdict it is: 01's "exposed", "hinted", "sealed" as the numbers 1, 2, 3 of the C interface
+unfoldable pub verdictCode : Verdict → ℕ
+verdictCode (verdict.Exposed k) = 1
+verdictCode (verdict.Hinted k) = 2
+verdictCode verdict.Sealed = 3
+
+-- "its label (0 if sealed)"
+unfoldable pub labelOf : Verdict → ℕ
+labelOf (verdict.Exposed k) = k
+labelOf (verdict.Hinted k) = k
+labelOf verdict.Sealed = 0

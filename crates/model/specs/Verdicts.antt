@@ -54,9 +54,3 @@ verdictBy none none = Sealed
 -- "If a high label is in R", "if S and R meet"
 unfoldable pub verdictOf : Table → List ℕ → Verdict
 verdictOf T policy = verdictBy (lowest (λ k. inR T policy k && isHigh policy k) 0 64) (lowest (λ k. inR T policy k && T .S k) 0 64)
-
--- "its label (0 if sealed)"
-unfoldable pub labelOf : Verdict → ℕ
-labelOf (Exposed k) = k
-labelOf (Hinted k) = k
-labelOf Sealed = 0

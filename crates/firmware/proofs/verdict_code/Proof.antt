@@ -1,5 +1,5 @@
 -- `firmware::verdict_code` meets its contract. By the verdict's case.
-use Rattle.firmware.specs.Packing.{verdictCode}
+use Rattle.model.specs.Numbers.{verdictCode}
 use mathlib.Core.Path.{sym, ap}
 use borrow.Author.Needs.{needs}
 use Rattle.firmware.proofs.verdict_code.Statement.{statement}

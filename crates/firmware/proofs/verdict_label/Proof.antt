@@ -1,6 +1,6 @@
 -- `firmware::verdict_label` meets its contract. By the verdict's case.
 use mathlib.Core.Path.{sym, ap}
-use Rattle.model.specs.Verdicts.{labelOf}
+use Rattle.model.specs.Numbers.{labelOf}
 use borrow.Author.Needs.{needs}
 use Rattle.firmware.proofs.verdict_label.Statement.{statement}
 use Rattle.firmware.proofs.verdict_label.Tie as tie

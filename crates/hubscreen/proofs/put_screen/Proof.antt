@@ -5,7 +5,7 @@ use mathlib.Core.List.{[]}
 use native.Mathlib.Omega.{arith}
 use Rattle.listing.specs.Laws.{listing-put, verdict-few}
 use Rattle.model.specs.Listing.{endWord, field, lastField, verdictWord}
-use Rattle.model.specs.Verdicts.{labelOf}
+use Rattle.model.specs.Numbers.{labelOf}
 use Rattle.text_put.specs.Laws.{line-few}
 use Rattle.hubscreen.proofs.put_screen.Statement.{statement}
 use Rattle.hubscreen.proofs.put_screen.Tie as tie

@@ -3,7 +3,7 @@ use borrow.Author.Needs.{needs}
 use mathlib.Core.List.{[], _++_}
 use mathlib.Core.Path.{ap, sym}
 use Rattle.model.specs.Listing.{field, lastField, verdictWord}
-use Rattle.model.specs.Verdicts.{labelOf}
+use Rattle.model.specs.Numbers.{labelOf}
 use Rattle.text_put.specs.Laws.{put-as}
 use Rattle.hubscreen.proofs.put_verdict.Statement.{statement}
 use Rattle.hubscreen.proofs.put_verdict.Tie as tie
