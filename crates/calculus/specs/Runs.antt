@@ -42,16 +42,16 @@ script-of z room h =
     let g = and-right (eqb (length z % 4) 0) _ h in
     record { whole = eqb-true _ _ (and-left _ _ h); few = leb-true _ _ (and-left _ _ g); places = eqb-true _ _ (and-right (leb (length z) 4096) _ g) }
 
-pub length-orders : (z : List ℕ) → length (stepsIn z) ≡ length z / 4
+pub length-steps : (z : List ℕ) → length (stepsIn z) ≡ length z / 4
 unfolding stepsIn
-length-orders z = length-tabulate (stepIn z) 0 (length z / 4)
+length-steps z = length-tabulate (stepIn z) 0 (length z / 4)
 
 -- the first k steps, and one more
-pub next-order : (z : List ℕ) (k : ℕ) → k < length z / 4 → take (k + 1) (stepsIn z) ≡ take k (stepsIn z) ++ (stepIn z k ∷ [])
+pub next-step : (z : List ℕ) (k : ℕ) → k < length z / 4 → take (k + 1) (stepsIn z) ≡ take k (stepsIn z) ++ (stepIn z k ∷ [])
 unfolding stepsIn
-next-order z k l =
+next-step z k l =
     let e : k + 1 ≡ suc k = omega arith in
-    ap (λ j. take j (stepsIn z)) e ∙ take-suc (stepsIn z) k (stepIn z 0) (omega (arith, length-orders z)) ∙ ap (λ m. take k (stepsIn z) ++ (m ∷ [])) (getD-tabulate (stepIn z) 0 (length z / 4) k (stepIn z 0) l ∙ ap (stepIn z) (zero-add k))
+    ap (λ j. take j (stepsIn z)) e ∙ take-suc (stepsIn z) k (stepIn z 0) (omega (arith, length-steps z)) ∙ ap (λ m. take k (stepsIn z) ++ (m ∷ [])) (getD-tabulate (stepIn z) 0 (length z / 4) k (stepIn z 0) l ∙ ap (stepIn z) (zero-add k))
 
 digit-elim : (b : Bool) → elim b [ true ↦ 1 | false ↦ 0 ] ≡ digit b
 unfolding digit
@@ -130,7 +130,7 @@ running-start s z d = record { bytes = refl; long = refl; answers = refl; counts
 
 module _ {s z d : List ℕ} {k : ℕ} {it ans : List ℕ} {c : Counts} (w : Running s z d k it ans c) (l : k ≤ length z / 4) (room : length d ≡ length z / 4) where
   length-first : length (take k (stepsIn z)) ≡ k
-  length-first = length-take-le k (stepsIn z) (omega (arith, length-orders z))
+  length-first = length-take-le k (stepsIn z) (omega (arith, length-steps z))
 
   pub running-room : length ans ≡ length d
   running-room = ap length (w .answers) ∙ length-append (answersOf free s (take k (stepsIn z))) (drop k d) ∙ omega (arith, answers-length s (take k (stepsIn z)), length-first, length-drop k d)
@@ -148,7 +148,7 @@ module _ {s z d : List ℕ} {k : ℕ} {it ans : List ℕ} {c : Counts} (w : Runn
 
   pub running-end : length z / 4 ≤ k → (c ≡ countsOf (outcomes free s (stepsIn z))) × (it ≡ afterList free s (stepsIn z)) × (ans ≡ answersOf free s (stepsIn z))
   running-end m =
-      let e = take-all k (stepsIn z) (omega (arith, length-orders z)) in (
+      let e = take-all k (stepsIn z) (omega (arith, length-steps z)) in (
         w .counts ∙ ap (λ x. countsOf (outcomes free s x)) e,
         w .bytes ∙ ap (afterList free s) e,
         w .answers ∙ ap (λ x. answersOf free s x ++ drop k d) e ∙ ap (λ x. answersOf free s (stepsIn z) ++ x) (let f : length d ≤ k = omega arith in drop-of-length-le d f) ∙ append-nil (answersOf free s (stepsIn z)),
@@ -177,7 +177,7 @@ module _ {s z d : List ℕ} {k : ℕ} {it ans : List ℕ} {c : Counts} (w : Runn
 
   more : take (k + 1) (stepsIn z) ≡ take k (stepsIn z) ++ (m ∷ [])
   unfolding m
-  more = next-order z k l
+  more = next-step z k l
 
   pub running-next : (it′ : List ℕ) (c′ : Counts) → it′ ≡ stepBytes free it actor partner → length it′ ≡ length it → c′ ≡ counted c kind number → Running s z d (k + 1) it′ (set ans k number) c′
   running-next it′ c′ e f g = record {
@@ -185,7 +185,7 @@ module _ {s z d : List ℕ} {k : ℕ} {it ans : List ℕ} {c : Counts} (w : Runn
     long = f ∙ w .long;
     answers =
         ap (λ x. set x k number) (w .answers)
-        ∙ fill-next (answersOf free s (take k (stepsIn z))) d k number (answers-length s (take k (stepsIn z)) ∙ length-take-le k (stepsIn z) (omega (arith, length-orders z))) (omega arith)
+        ∙ fill-next (answersOf free s (take k (stepsIn z))) d k number (answers-length s (take k (stepsIn z)) ∙ length-take-le k (stepsIn z) (omega (arith, length-steps z))) (omega arith)
         ∙ ap (λ x. (answersOf free s (take k (stepsIn z)) ++ (x ∷ [])) ++ drop (k + 1) d) is-number
         ∙ ap (λ x. x ++ drop (k + 1) d) (answers-next s (take k (stepsIn z)) m it (w .bytes) ∙ ap (answersOf free s) (sym more));
     counts =

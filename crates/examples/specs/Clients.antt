@@ -1,6 +1,6 @@
 -- Two clients on one bench, screened once for each. Below the boundary 1 stands the first client's recipe, the ambient 2,
 -- and below the boundary 3 the second's, the ambient 4; beside them stands an ambient 5 that enters 6. For the first client
--- 4 is high and its own labels are low, for the second 2 is high. Each sees its own recipe and not the other's.
+-- 4 is high and its own labels are low, for the second 2 is high.
 use Prim.Native.Nat.{ℕ}
 use lib.ListN.{getD, replicate}
 use mathlib.Core.Bool.{true}

@@ -17,7 +17,7 @@ use Rattle.model.specs.Laws.Adequacy.{follows-rules}
 use Rattle.model.specs.Laws.Finite.{every-use}
 use Rattle.model.specs.Laws.WellFormed.{alive-in}
 use Rattle.model.specs.Noninterference.{Event, after, given, single}
-use Rattle.model.specs.Processes.{Chain, Means, Process, Reads, Reduces, _·_, _‖_, ambient, both, cap, doneIn, end, leaves, nothing, one, read, says-ambient, says-cap, times}
+use Rattle.model.specs.Processes.{Chain, Congruent, Means, Process, Reads, Reduces, _·_, _‖_, ambient, both, cap, doneIn, end, leaves, nothing, one, read, says-ambient, says-cap, times}
 use Rattle.model.specs.Records.{at, cap-in, cap-open, cap-out, records}
 use Rattle.model.specs.Refusals.{done}
 use Rattle.model.specs.declared.Rec.{Rec}
@@ -81,6 +81,8 @@ unfolding computing packet journey departure arrival read-departure read-arrival
 published-journey = (means-by _ read-departure refl, refl, means-by _ read-arrival refl)
 
 -- three reductions, to a process congruent to A[] | B[]
-pub published-chain : (Q : Process) × Chain free 3 departure Q × Means (records (after packet journey)) Q
+pub published-chain : (Q : Process) × Chain free 3 departure Q × Congruent Q arrival
 unfolding computing packet journey doneIn
-published-chain = follows-rules packet 6 refl .chained (published-journey .0) journey
+published-chain =
+    let w = follows-rules packet 6 refl .chained (published-journey .0) journey in
+    (w .0, w .1, follows-rules (after packet journey) 6 refl .unique (w .2) (published-journey .2))

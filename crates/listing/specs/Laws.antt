@@ -7,7 +7,7 @@ use mathlib.Core.List.{List, [], _++_, _∷_, append-assoc}
 use mathlib.Core.Path.{_∙_, _≡_, ap, refl, sym}
 use native.Mathlib.Nat.{zero-add}
 use native.Mathlib.Omega.{arith}
-use Rattle.calculus.specs.Runs.{Script, length-orders}
+use Rattle.calculus.specs.Runs.{Script, length-steps}
 use Rattle.model.specs.Laws.Finite.{getD-tabulate}
 use Rattle.model.specs.Listing.{endLine, endWord, field, lastField, listing, stepLines, verdictWord}
 use Rattle.model.specs.Records.{byte, word}
@@ -87,7 +87,7 @@ module _ (z answers : List ℕ) (r : Script z (length answers)) (k : ℕ) where
   next-step : k < length answers → drop k (stepsIn z) ≡ stepIn z k ∷ drop (k + 1) (stepsIn z)
   unfolding stepsIn
   next-step l =
-      let b : k < length (stepsIn z) = omega (arith, length-orders z, r .places) in
+      let b : k < length (stepsIn z) = omega (arith, length-steps z, r .places) in
       let e : suc k ≡ k + 1 = omega arith in
       drop-cons (stepsIn z) k (stepIn z 0) b
       ∙ ap (λ m. m ∷ drop (suc k) (stepsIn z)) (getD-tabulate (stepIn z) 0 (length z / 4) k (stepIn z 0) (omega (arith, r .places)) ∙ ap (stepIn z) (zero-add k))
@@ -108,7 +108,7 @@ module _ (z answers : List ℕ) (r : Script z (length answers)) (k : ℕ) where
   pub ahead-end : length answers ≤ k → ahead z answers k ≡ []
   unfolding ahead stepLines
   ahead-end l =
-      let b : length (stepsIn z) ≤ k = omega (arith, length-orders z, r .places) in
+      let b : length (stepsIn z) ≤ k = omega (arith, length-steps z, r .places) in
       rw (drop-of-length-le (stepsIn z) b)
 
 pub ahead-all : (z answers t : List ℕ) (p : ℕ) → p + length (stepLines (stepsIn z) answers []) ≤ length t →

@@ -7,7 +7,7 @@ use mathlib.Core.List.{List, [], _∷_}
 use mathlib.Core.Option.{Option, none, some}
 use mathlib.Core.Path.{_≡_, ap, refl}
 use native.Mathlib.Omega.{arith}
-use Rattle.calculus.specs.Runs.{length-orders, script-of}
+use Rattle.calculus.specs.Runs.{length-steps, script-of}
 use Rattle.model.specs.Analysis.{Permit, free}
 use Rattle.model.specs.Calls.{screenAnswer, screenAnswers, screening}
 use Rattle.model.specs.Laws.Checks.{answer-done, need-pass, then-pass}
@@ -65,7 +65,7 @@ module _ (s policy z answers : List ℕ) (x : Screen) (d : screenAnswer s policy
 
   pub done-short : length (stepLines (stepsIn z) (screenAnswers s policy z answers) []) ≤ 15360
   unfolding screenAnswers content
-  done-short = rw (passes, content) (omega (arith, lines-short s (stepsIn z), length-orders z, script-of z (length answers) done-script .few))
+  done-short = rw (passes, content) (omega (arith, lines-short s (stepsIn z), length-steps z, script-of z (length answers) done-script .few))
 
 -- the text of a screen that is done, and of one that is refused
 done-all : (s policy z answers : List ℕ) (x : Screen) → screenAnswer s policy z answers ≡ done x → length (listing (done x) (stepsIn z) (screenAnswers s policy z answers)) ≤ 15408

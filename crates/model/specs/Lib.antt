@@ -1,4 +1,4 @@
--- The definitions of document 01, in the order to read them, with the product's demand 3 (Noninterference); then what is
+-- The definitions of document 01, in the order to read them, with the product's demand 3 (Noninterference) and demand 2's steps (Processes); then what is
 -- proved of them.
 pub mod Finite
 pub mod Records

@@ -123,7 +123,7 @@ Demand3 = (policy table x y : List ℕ) →
     -- "the same list of steps, any list of any length, refused steps included, singly or in scripts"
     (es : List Event) → Noninterference policy table x y es
 
--- "Four clients may share one bench": a client's policy, in which the others' recipes are high and its own is low, and the
+-- "Four clients may share one bench": a client's policy, which is meant to have the others' recipes high and its own low, and the
 -- table that the bench is screened by for this client
 pub record Client : Type 0 where
   pub policy : List ℕ

@@ -253,7 +253,7 @@ placedFrom k above (l ∷ ls) = recordOf l (getD above (l .depth) 0) ∷ placedF
 unfoldable pub noneAbove : List ℕ
 noneAbove = replicate 1025 0
 
--- "Record k of the itinerary is line k"
+-- record k of the itinerary is line k
 unfoldable pub placed : List Line → List Rec
 placed ls = placedFrom 1 noneAbove ls
 

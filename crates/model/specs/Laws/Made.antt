@@ -16,13 +16,13 @@ use Rattle.model.specs.Tables.{bits, policyRight, total}
 use Rattle.model.specs.Validity.{validity}
 use Rattle.model.specs.declared.Screen.{Screen}
 
--- "The made table is accepted"
+-- "The table that the hub makes is accepted"
 pub made-accepted : (s policy : List ℕ) → validity s ≡ pass → policyRight policy ≡ true → checkAnswer s policy (leastTable free policy (records s)) ≡ done tt
 made-accepted s policy v p = let wf = valid-wf s v in
     accept s policy (leastTable free policy (records s))
     (record { valid = v; policy-right = p; table-right = least-table-right free policy wf; holding = least-table-holds free policy wf })
 
--- "and inside every accepted one"
+-- "and lies inside every other table accepted for the same itinerary and policy"
 pub made-inside : (s policy table : List ℕ) → checkAnswer s policy table ≡ done tt → (j : ℕ) → j < 12352 → bits (leastTable free policy (records s)) j ≡ true → bits table j ≡ true
 made-inside s policy table h = let w = accepted s policy table h in least-table-below free policy (valid-wf s (w .valid)) (bits table) (w .holding)
 

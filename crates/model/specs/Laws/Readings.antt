@@ -1,5 +1,5 @@
 -- Processes read from records. A derivation of `Reads` is the numbered tree, and `times` counts how often it has a record, so
--- "once", "not in this part" and "these two differ" are sums. The parent of a record that is read is read too, or is the
+-- once, not in this part, and these two differ, are sums. The parent of a record that is read is read too, or is the
 -- number that the reading starts from (`climbs`): this stands in for depth. What follows: records that stay the same are
 -- read alike (`keep`), children that go to another parent are read there (`rehang`), congruent processes are read from the
 -- same records (`conform`, by induction on the congruence), and a child of the start is brought to the front up to
