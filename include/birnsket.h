@@ -1,7 +1,7 @@
 /*
  * birnsket.h: the bench hub's ambient screen, for callers in C.
  *
- * Link with libfirmware.a, which `rt staticlib firmware` writes for x86-64
+ * Link with libbirnsket.a, which `rt staticlib birnsket` writes for x86-64
  * (System V calling convention). The formats, the words and the rules that the
  * calls use are explained first; each call's contract stands with it.
  *

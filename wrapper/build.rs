@@ -1,4 +1,4 @@
-//! Links libfirmware.a from the folder that BIRNSKET_LIB names.
+//! Links libbirnsket.a from the folder that BIRNSKET_LIB names.
 
 use std::env;
 use std::path::{Path, PathBuf};
@@ -9,7 +9,7 @@ fn main() {
         env::var_os("BIRNSKET_LIB").map_or_else(|| PathBuf::from("../target/staticlib"), PathBuf::from);
     let folder = Path::new(&here).join(named);
     println!("cargo:rerun-if-env-changed=BIRNSKET_LIB");
-    println!("cargo:rerun-if-changed={}", folder.join("libfirmware.a").display());
+    println!("cargo:rerun-if-changed={}", folder.join("libbirnsket.a").display());
     println!("cargo:rustc-link-search=native={}", folder.display());
-    println!("cargo:rustc-link-lib=static=firmware");
+    println!("cargo:rustc-link-lib=static=birnsket");
 }

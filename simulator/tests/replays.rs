@@ -1,7 +1,7 @@
 //! Replay files play as they were written, and notice changed definitions.
 
 use simulator::law::{Law, CHANGES};
-use simulator::replay::{file, player::play, Size, SECTIONS};
+use simulator::replay::{file, player::play, stream::HEADER, Size, SECTIONS};
 use simulator::secrecy::{files::faults, text};
 use std::fs;
 
@@ -29,8 +29,13 @@ fn samples_notice_every_change() {
 fn a_damaged_file_is_an_error() {
     let (bytes, _) = file(&SECTIONS[2], SEED, Size::Sample);
     assert!(play(Law::Document, &bytes[..bytes.len() - 1]).is_err());
-    let longer = [bytes, vec![0]].concat();
+    let longer = [&bytes[..], &[0]].concat();
     assert!(play(Law::Document, &longer).is_err());
+    for place in 0..HEADER.len() {
+        let mut other = bytes.clone();
+        other[place] += 1;
+        assert!(play(Law::Document, &other).is_err(), "byte {place} of the header");
+    }
 }
 
 #[test]

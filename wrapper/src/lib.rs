@@ -1,6 +1,6 @@
 //! Safe calls of the bench hub's ambient screen, a library that is proved.
 //!
-//! Each function lends its slices to an entry of libfirmware.a. A refused call
+//! Each function lends its slices to an entry of libbirnsket.a. A refused call
 //! leaves every slice as it was. The causes, their order, and what the slices hold
 //! afterwards are in include/birnsket.h.
 

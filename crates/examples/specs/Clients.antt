@@ -10,7 +10,7 @@ use native.Mathlib.Omega.{arith}
 use Rattle.examples.specs.Claims.{classes, isIn, rec}
 use Rattle.examples.specs.Listed.{allBelow, computing}
 use Rattle.examples.specs.Tabled.{accepting, formed, judging, showing-alike, tableOf}
-use Rattle.model.specs.Analysis.{free, holds}
+use Rattle.model.specs.Analysis.{permitAll, holds}
 use Rattle.model.specs.Calls.{checkAnswer}
 use Rattle.model.specs.Finite.{Each}
 use Rattle.model.specs.Laws.Secrecy.{every-client}
@@ -62,7 +62,7 @@ small-second : allBelow 12352 (bitsFor 2) ≡ true
 unfolding computing allBelow bitsFor common
 small-second = refl
 
-accepted-first : (s : List ℕ) → validity s ≡ pass → holds free firstPolicy (records s) (parts (isIn (bitsFor 4))) ≡ true → checkAnswer s firstPolicy (tableOf (bitsFor 4)) ≡ done tt
+accepted-first : (s : List ℕ) → validity s ≡ pass → holds permitAll firstPolicy (records s) (parts (isIn (bitsFor 4))) ≡ true → checkAnswer s firstPolicy (tableOf (bitsFor 4)) ≡ done tt
 unfolding computing firstPolicy bitsFor common formed
 accepted-first = accepting (bitsFor 4) small-first firstPolicy refl refl
 

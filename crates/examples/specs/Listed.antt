@@ -10,19 +10,19 @@ use mathlib.Core.Path.{_∙_, _≡_, ap, ap₂, fun-ext, refl, subst, sym}
 use native.Mathlib.Decide.{decLt}
 use native.Mathlib.Omega.{arith}
 use Rattle.examples.specs.Claims.{Meets, allLow, blankTable, classes, isIn, itineraryA, itineraryB, itineraryC, itineraryD, itineraryE, itineraryF, itineraryG, itineraryH, makes, rec, recordsA, suspecting}
-use Rattle.model.specs.Analysis.{free, holds, onlyIf, recordHolds, ruleHolds, rulesHold}
-use Rattle.model.specs.Calls.{checkAnswer, checking, makeAfter, makeAnswer, making, metCheck, runAfter, runAnswers, running, screenAnswer, screenAnswers, screening, stepAfter, stepAnswer, stepping, validateAnswer, verdictAnswer}
+use Rattle.model.specs.Analysis.{permitAll, holds, onlyIf, recordHolds, ruleHolds, rulesHold}
+use Rattle.model.specs.Calls.{checkAnswer, checking, comparing, entry, makeAfter, makeAnswer, making, outcomeCheck, runAfter, runAnswers, running, screenAnswer, screenAnswers, screening, stepAfter, stepAnswer, stepping, validateAnswer, verdictAnswer}
 use Rattle.model.specs.Climbing.{ambientAnd, hides, isSuspect, labelled, reaches, view, viewFrom}
 use Rattle.model.specs.Finite.{Each, digit, every, lowest, someOf, tabulate, tally}
 use Rattle.model.specs.Laws.Bit.{zero-bit}
 use Rattle.model.specs.Laws.Bytes.{valid-wf}
-use Rattle.model.specs.Laws.Checks.{answer-done, beq-eq, need-make, then-make}
+use Rattle.model.specs.Laws.Checks.{all-pass, answer-done}
+use Rattle.model.specs.Laws.Booleans.{and-left, and-right, beq-eq}
 use Rattle.model.specs.Laws.Finite.{every-use}
 use Rattle.model.specs.Laws.Holding.{Holds, holds-sound}
 use Rattle.model.specs.Laws.Least.{least-table-is}
 use Rattle.model.specs.Laws.Made.{made-accepted}
 use Rattle.model.specs.Laws.Sets.{bits-bytes, bytes-narrow, length-bytes}
-use Rattle.model.specs.Laws.WellFormed.{and-left, and-right}
 use Rattle.model.specs.Least.{bytes, leastTable, numeral}
 use Rattle.model.specs.Listing.{contentOf, digitsIn, endLine, endWord, field, lastField, listing, refusedWord, stepLines, verdictWord}
 use Rattle.model.specs.Noninterference.{after, afterEvent, allSteps, given, givenBy, kept, stepsOf}
@@ -32,14 +32,14 @@ use Rattle.model.specs.Refusals.{andThen, answer, content, done, eachOf, need, 
 use Rattle.model.specs.Scripts.{afterList, answersOf, countsOf, doneBy, howMany, kindOf, notGone, stepIn, stepsIn, outcomes, scriptRight}
 use Rattle.model.specs.Steps.{answerOf, decide, dissolve, dissolved, fit, move, outcome, outcomeBy, place, placed, ready, rewritten, stands, stepBytes}
 use Rattle.model.specs.Tables.{bitAt, bits, isBoundary, isHigh, parts, placeH, placeI, placeS, policyRight, tableSized, testBit, total}
-use Rattle.model.specs.Validity.{blank, climbCheck, goneRight, kindRight, labelBy, labelIn, labelRight, nameBy, nameRight, parentRight, recordCheck, sizeRight, spareRight, validity}
+use Rattle.model.specs.Validity.{blank, climbCheck, form, goneRight, kindRight, labelBy, labelIn, labelRight, nameBy, nameRight, parentRight, recordCheck, sizeRight, spareRight, validity}
 use Rattle.model.specs.Verdicts.{alike, growing, grown, inR, joins, marked, opening, reached, verdictBy, verdictOf}
 use Rattle.model.specs.Numbers.{labelOf}
 use Rattle.model.specs.declared.Verdict.{Verdict}
 
 -- what the examples compute with: to unfold this is to unfold all that its line names
 unfoldable pub computing : ℕ
-unfolding sizeRight kindRight spareRight blank goneRight labelIn labelBy labelRight nameBy nameRight parentRight recordCheck climbCheck validity count byteOf decode records tabulate at isAmbient nested viewFrom reaches need andThen eachOf view labelled capability every onlyIf ruleHolds rulesHold recordHolds holds isHigh placeI placeH placeS isIn someOf lowest marked alike joins grown growing reached opening inR isBoundary verdictBy verdictOf encode updateFrom ambientAnd placed place dissolved dissolve ready stands fit move decide outcomeBy outcome answerOf rewritten stepBytes metCheck stepping stepAnswer stepAfter answer content stepIn stepsIn scriptRight afterList outcomes answersOf running runAfter runAnswers afterEvent after kept stepsOf allSteps givenBy given hides isSuspect sheet onSheet policyRight total bytes numeral digit ones onesIn validateAnswer screening tally notGone countsOf howMany doneBy kindOf screenAnswers contentOf digitsIn field lastField verdictWord endWord refusedWord stepLines endLine listing labelOf rec classes allLow recordsA itineraryA itineraryB itineraryC itineraryD itineraryE itineraryF itineraryG itineraryH
+unfolding form entry comparing sizeRight kindRight spareRight blank goneRight labelIn labelBy labelRight nameBy nameRight parentRight recordCheck climbCheck validity count byteOf decode records tabulate at isAmbient nested viewFrom reaches need andThen eachOf view labelled capability every onlyIf ruleHolds rulesHold recordHolds holds isHigh placeI placeH placeS isIn someOf lowest marked alike joins grown growing reached opening inR isBoundary verdictBy verdictOf encode updateFrom ambientAnd placed place dissolved dissolve ready stands fit move decide outcomeBy outcome answerOf rewritten stepBytes outcomeCheck stepping stepAnswer stepAfter answer content stepIn stepsIn scriptRight afterList outcomes answersOf running runAfter runAnswers afterEvent after kept stepsOf allSteps givenBy given hides isSuspect sheet onSheet policyRight total bytes numeral digit ones onesIn validateAnswer screening tally notGone countsOf howMany doneBy kindOf screenAnswers contentOf digitsIn field lastField verdictWord endWord refusedWord stepLines endLine listing labelOf rec classes allLow recordsA itineraryA itineraryB itineraryC itineraryD itineraryE itineraryF itineraryG itineraryH
 computing = 0
 
 unfoldable pub allBelow : ℕ → List ℕ → Bool
@@ -80,11 +80,11 @@ bits-listed xs b = fun-ext (λ j. go j (decLt j 12352))
         ∙ zero-bit (j % 8) ∙ sym (none j (omega arith) (isIn xs j) refl)
 
 -- a list of bits that holds, and that every table that holds has, is the least table
-pub listed : (s policy : List ℕ) → validity s ≡ pass → (xs : List ℕ) → allBelow 12352 xs ≡ true → holds free policy (records s) (parts (isIn xs)) ≡ true →
-    ((u : ℕ → Bool) → Holds free policy (records s) (parts u) → Each (λ j. u j ≡ true) xs) → leastTable free policy (records s) ≡ bytes 1544 (isIn xs)
+pub listed : (s policy : List ℕ) → validity s ≡ pass → (xs : List ℕ) → allBelow 12352 xs ≡ true → holds permitAll policy (records s) (parts (isIn xs)) ≡ true →
+    ((u : ℕ → Bool) → Holds permitAll policy (records s) (parts u) → Each (λ j. u j ≡ true) xs) → leastTable permitAll policy (records s) ≡ bytes 1544 (isIn xs)
 listed s policy v xs b h f = let wf = valid-wf s v in
-    sym (least-table-is free policy wf (bytes 1544 (isIn xs)) (length-bytes (isIn xs) 1544) (bytes-narrow (isIn xs) 1544)
-    (subst (λ u. Holds free policy (records s) (parts u)) (sym (bits-listed xs b)) (holds-sound free policy (records s) (parts (isIn xs)) h))
+    sym (least-table-is permitAll policy wf (bytes 1544 (isIn xs)) (length-bytes (isIn xs) 1544) (bytes-narrow (isIn xs) 1544)
+    (subst (λ u. Holds permitAll policy (records s) (parts u)) (sym (bits-listed xs b)) (holds-sound permitAll policy (records s) (parts (isIn xs)) h))
     (λ u g j l e. in-each (λ i. u i ≡ true) xs (f u g) j (sym (ap (λ w. w j) (bits-listed xs b)) ∙ e)))
 
 -- an example whose least table is listed
@@ -92,24 +92,24 @@ pub record Listed (s policy xs : List ℕ) (ones : ℕ) (verdict : Verdict) : Ty
   pub valid : validity s ≡ pass
   pub policy-right : policyRight policy ≡ true
   pub small : allBelow 12352 xs ≡ true
-  pub holding : holds free policy (records s) (parts (isIn xs)) ≡ true
-  pub forced : (u : ℕ → Bool) → Holds free policy (records s) (parts u) → Each (λ j. u j ≡ true) xs
+  pub holding : holds permitAll policy (records s) (parts (isIn xs)) ≡ true
+  pub forced : (u : ℕ → Bool) → Holds permitAll policy (records s) (parts u) → Each (λ j. u j ≡ true) xs
   pub counted : total (bytes 1544 (isIn xs)) ≡ ones
   pub judged : verdictOf (parts (isIn xs)) policy ≡ verdict
 
 module _ {s policy xs : List ℕ} {ones : ℕ} {verdict : Verdict} (w : Listed s policy xs ones verdict) where
-  table-is : leastTable free policy (records s) ≡ bytes 1544 (isIn xs)
+  table-is : leastTable permitAll policy (records s) ≡ bytes 1544 (isIn xs)
   table-is = listed s policy (w .valid) xs (w .small) (w .holding) (w .forced)
 
   making-passes : making s policy blankTable ≡ pass
-  unfolding making tableSized blankTable
-  making-passes = then-make (w .valid) (then-make (need-make 7 0 (w .policy-right)) (need-make 8 0 refl))
+  unfolding making entry tableSized blankTable
+  making-passes = search all-pass depth 12
 
-  made-is : makeAfter s policy blankTable ≡ leastTable free policy (records s)
+  made-is : makeAfter s policy blankTable ≡ leastTable permitAll policy (records s)
   unfolding makeAfter content
   made-is = rw (making-passes, content)
 
-  check-passes : (t : List ℕ) → t ≡ leastTable free policy (records s) → checking s policy t ≡ pass
+  check-passes : (t : List ℕ) → t ≡ leastTable permitAll policy (records s) → checking s policy t ≡ pass
   unfolding checkAnswer
   check-passes t e =
       let h : checkAnswer s policy t ≡ done tt = rw e (made-accepted s policy (w .valid) (w .policy-right)) in
@@ -134,12 +134,12 @@ module _ {s policy xs : List ℕ} {ones : ℕ} {verdict : Verdict} (w : Listed s
       screenAnswer s policy z answers ≡ done (record {
         verdict = verdict;
         ones = ones;
-        counts = countsOf (outcomes free s (stepsIn z));
-        left = notGone (records (afterList free s (stepsIn z)));
+        counts = countsOf (outcomes permitAll s (stepsIn z));
+        left = notGone (records (afterList permitAll s (stepsIn z)));
       })
-  unfolding screenAnswer screening answer
+  unfolding screenAnswer screening entry answer
   listed-screen z answers e =
-      let c : screening s policy z answers ≡ pass = then-make (w .valid) (then-make (need-make 7 0 (w .policy-right)) (need-make 13 0 e)) in
-      let v : verdictOf (parts (bits (leastTable free policy (records s)))) policy ≡ verdict =
+      let c : screening s policy z answers ≡ pass = search all-pass depth 12 in
+      let v : verdictOf (parts (bits (leastTable permitAll policy (records s)))) policy ≡ verdict =
       ap (λ t. verdictOf (parts (bits t)) policy) table-is ∙ ap (λ u. verdictOf (parts u) policy) (bits-listed xs (w .small)) ∙ w .judged in
       rw (c, answer, v, ap total table-is ∙ w .counted)

@@ -12,14 +12,15 @@ use Rattle.examples.specs.Claims.{Meets, allLow, classes, examples, isIn
 use Rattle.examples.specs.Listed.{Listed, allBelow, computing, listed-makes, listed-screen, listed-suspects}
 use Rattle.model.specs.Calls.{screenAnswers, validateAnswer}
 use Rattle.model.specs.Finite.{Each, every}
-use Rattle.model.specs.Laws.WellFormed.{and-left, and-right}
+use Rattle.model.specs.Laws.Booleans.{and-left, and-right}
 use Rattle.model.specs.Listing.{hubscreen, listing, written}
-use Rattle.model.specs.Records.{cap-in, cap-open, cap-out, isAmbient, nested}
+use Rattle.model.specs.Records.{isAmbient, nested}
 use Rattle.model.specs.Refusals.{refused}
 use Rattle.model.specs.Scripts.{stepsIn}
 use Rattle.model.specs.Tables.{placeH, placeI, placeS}
 use Rattle.model.specs.Validity.{labelBy, labelRight, nameBy, nameRight}
 use Rattle.model.specs.declared.Verdict.the-variants.{Exposed, Hinted, Sealed}
+use Rattle.model.specs.declared.Capability.the-variants.{In as cap-in, Open as cap-open, Out as cap-out}
 
 unfoldable pub bitsA : List ℕ
 unfolding computing

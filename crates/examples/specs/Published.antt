@@ -10,7 +10,7 @@ use mathlib.Core.Path.{_≡_, ap, refl}
 use native.Mathlib.Omega.{arith}
 use Rattle.examples.specs.Claims.{itineraryB, rec}
 use Rattle.examples.specs.Listed.{computing}
-use Rattle.model.specs.Analysis.{free}
+use Rattle.model.specs.Analysis.{permitAll}
 use Rattle.model.specs.Calls.{stepAfter, stepAnswer}
 use Rattle.model.specs.Finite.{every, unequal}
 use Rattle.model.specs.Laws.Adequacy.{follows-rules}
@@ -18,9 +18,10 @@ use Rattle.model.specs.Laws.Finite.{every-use}
 use Rattle.model.specs.Laws.WellFormed.{alive-in}
 use Rattle.model.specs.Noninterference.{Event, after, given, single}
 use Rattle.model.specs.Processes.{Chain, Congruent, Means, Process, Reads, Reduces, _·_, _‖_, ambient, both, cap, doneIn, end, leaves, nothing, one, read, says-ambient, says-cap, times}
-use Rattle.model.specs.Records.{at, cap-in, cap-open, cap-out, records}
+use Rattle.model.specs.Records.{at, records}
 use Rattle.model.specs.Refusals.{done}
 use Rattle.model.specs.declared.Rec.{Rec}
+use Rattle.model.specs.declared.Capability.the-variants.{In as cap-in, Open as cap-open, Out as cap-out}
 
 -- a reading is the itinerary where a test finds each record that is not gone exactly once
 means-by : (its : List Rec) {P : Process} (r : Reads its 0 P) → every (suc (length its)) (λ i. unequal (at its i .kind) 0) (λ i. eqb (times r i) 1) ≡ true → Means its P
@@ -46,7 +47,7 @@ unfolding computing endB
 readB′ = both (read 2 refl (says-ambient refl refl refl) (both end end)) (read 1 refl (says-ambient refl refl refl) end)
 
 -- "Step (3,1)" of B is a reduction by the published rule of out
-pub published-B : Means (records itineraryB) startB × Reduces free 0 startB endB × (stepAnswer itineraryB 3 1 ≡ done tt) × Means (records (stepAfter itineraryB 3 1)) endB
+pub published-B : Means (records itineraryB) startB × Reduces permitAll 0 startB endB × (stepAnswer itineraryB 3 1 ≡ done tt) × Means (records (stepAfter itineraryB 3 1)) endB
 unfolding computing startB endB readB readB′ times one
 published-B = (means-by _ readB refl, leaves refl, refl, means-by _ readB′ refl)
 
@@ -81,7 +82,7 @@ unfolding computing packet journey departure arrival read-departure read-arrival
 published-journey = (means-by _ read-departure refl, refl, means-by _ read-arrival refl)
 
 -- three reductions, to a process congruent to A[] | B[]
-pub published-chain : (Q : Process) × Chain free 3 departure Q × Congruent Q arrival
+pub published-chain : (Q : Process) × Chain permitAll 3 departure Q × Congruent Q arrival
 unfolding computing packet journey doneIn
 published-chain =
     let w = follows-rules packet 6 refl .chained (published-journey .0) journey in

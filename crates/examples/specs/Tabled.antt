@@ -8,10 +8,11 @@ use mathlib.Core.List.{List}
 use mathlib.Core.Path.{_∙_, _≡_, ap, ap₂, subst, sym}
 use Rattle.examples.specs.Claims.{isIn}
 use Rattle.examples.specs.Listed.{allBelow, bits-listed}
-use Rattle.model.specs.Analysis.{free, holds}
+use Rattle.model.specs.Analysis.{permitAll, holds}
 use Rattle.model.specs.Calls.{checkAnswer, checking, verdictAnswer}
 use Rattle.model.specs.Finite.{every}
-use Rattle.model.specs.Laws.Checks.{and-make, answer-done}
+use Rattle.model.specs.Laws.Checks.{answer-done}
+use Rattle.model.specs.Laws.Booleans.{and-make}
 use Rattle.model.specs.Laws.Holding.{holds-sound}
 use Rattle.model.specs.Laws.Secrecy.{accept}
 use Rattle.model.specs.Laws.Sets.{length-bytes}
@@ -46,12 +47,12 @@ module _ (xs : List ℕ) (small : allBelow 12352 xs ≡ true) where
   right-tabled f = and-make (eq-eqb _ _ length-tabled) (rw bits-tabled f)
 
   pub accepting : (policy : List ℕ) → policyRight policy ≡ true → formed xs ≡ true → (s : List ℕ) → validity s ≡ pass →
-      holds free policy (records s) (parts (isIn xs)) ≡ true → checkAnswer s policy (tableOf xs) ≡ done tt
+      holds permitAll policy (records s) (parts (isIn xs)) ≡ true → checkAnswer s policy (tableOf xs) ≡ done tt
   accepting policy p f s v h = accept s policy (tableOf xs) (record {
     valid = v;
     policy-right = p;
     table-right = right-tabled f;
-    holding = holds-sound free policy (records s) (parts (bits (tableOf xs))) (rw bits-tabled h);
+    holding = holds-sound permitAll policy (records s) (parts (bits (tableOf xs))) (rw bits-tabled h);
   })
 
   pub judging : (policy s : List ℕ) (v : Verdict) → checkAnswer s policy (tableOf xs) ≡ done tt → verdictOf (parts (isIn xs)) policy ≡ v →

@@ -9,7 +9,7 @@ use native.Mathlib.Omega.{arith}
 use Rattle.examples.specs.Claims.{classes, isIn, rec}
 use Rattle.examples.specs.Listed.{allBelow, computing}
 use Rattle.examples.specs.Tabled.{accepting, formed, judging, showing-alike, tableOf}
-use Rattle.model.specs.Analysis.{free, holds}
+use Rattle.model.specs.Analysis.{permitAll, holds}
 use Rattle.model.specs.Calls.{checkAnswer}
 use Rattle.model.specs.Laws.Secrecy.{noninterference}
 use Rattle.model.specs.Noninterference.{Event, Noninterference, allSteps, given, script, single}
@@ -49,7 +49,7 @@ small-W : allBelow 12352 bitsW ≡ true
 unfolding computing allBelow bitsW
 small-W = refl
 
-accepted-W : (s : List ℕ) → validity s ≡ pass → holds free classes (records s) (parts (isIn bitsW)) ≡ true → checkAnswer s classes tableW ≡ done tt
+accepted-W : (s : List ℕ) → validity s ≡ pass → holds permitAll classes (records s) (parts (isIn bitsW)) ≡ true → checkAnswer s classes tableW ≡ done tt
 unfolding computing bitsW formed
 accepted-W = accepting bitsW small-W classes refl refl
 

@@ -39,7 +39,7 @@ pub fn load(path: &[u8], buffer: &mut [u8]) -> Loaded
 }
 
 // Reads a file of at most max bytes into a buffer of one byte more or longer, and answers the length to lend: a file that
-// is too long is lent with the one byte too many, for the library to refuse. The bytes from max on stay as they were. Inner.
+// is too long is lent with the one byte too many, for the library to refuse. The bytes from max on stay as they were.
 pub fn load_most(path: &[u8], buffer: &mut [u8], max: usize) -> usize
     requires { ⌜ max < length (now buffer) ⌝ }
     ensures { λ r. ⌜ (Counts r (now (buffer .exit))) × (r ≤ max + 1)
@@ -52,7 +52,7 @@ pub fn load_most(path: &[u8], buffer: &mut [u8], max: usize) -> usize
     l.len
 }
 
-// Writes the first n bytes to standard output, by one call; inner.
+// Writes the first n bytes to standard output, by one call.
 pub fn first(bytes: &[u8], n: usize)
     requires { ⌜ n ≤ length (now bytes) ⌝ }
 {

@@ -5,7 +5,7 @@ use mathlib.Core.List.{List, [], _++_}
 use mathlib.Core.Path.{_∙_, _≡_, ap, sym}
 use native.Mathlib.Omega.{arith}
 use Rattle.model.specs.Calls.{makeAfter, makeAnswer, making}
-use Rattle.model.specs.Laws.Checks.{answer-done, then-pass}
+use Rattle.model.specs.Laws.Checks.{answer-done, answer-refused, then-pass}
 use Rattle.model.specs.Listing.{field, lastField, refusedWord}
 use Rattle.model.specs.Numbers.{madeAs, refusal}
 use Rattle.model.specs.Records.{records}
@@ -14,11 +14,10 @@ use Rattle.model.specs.Tables.{suspects}
 use Rattle.model.specs.declared.Made.{Made}
 use Rattle.model.specs.declared.Made.the-variants as made
 use Rattle.model.specs.declared.Refusal.{Refusal}
-use Rattle.itinerary.specs.Laws.{answer-refused}
 use Rattle.text_put.specs.Laws.{put-over}
 use Rattle.text_put.specs.Puts.{Put, over}
-use Rattle.textform.specs.Laws.Room.{list-short, or-short}
-use Rattle.textform.specs.Writing.{listOf, listable, textOr}
+use Rattle.text_form.specs.Laws.Room.{list-short, or-short}
+use Rattle.text_form.specs.Writing.{listOf, listable, textOr}
 
 -- the listing by the table made, after the maker's checks and its own
 unfoldable pub listed : List ℕ → List ℕ → List ℕ → List ℕ

@@ -2,7 +2,7 @@
 // sheet hides is marked, or writes the line of a refusal.
 use model::Made;
 use model::Refusal;
-use textform::TextWritten;
+use text_form::TextWritten;
 ghost use mathlib.Core.List.{[], _++_};
 ghost use mathlib.Core.Path.{_≡_};
 ghost use Prim.Native.Nat.{_≤_};
@@ -13,14 +13,14 @@ ghost use Rattle.model.specs.Listing.{field, lastField, refusedWord};
 ghost use Rattle.model.specs.Records.{records};
 ghost use Rattle.model.specs.Tables.{suspects};
 ghost use Rattle.text_put.specs.Puts.{Put, over};
-ghost use Rattle.textform.specs.Writing.{listOf, listable, textOr};
+ghost use Rattle.text_form.specs.Writing.{listOf, listable, textOr};
 
 // Room for the longest listing of 1,024 lines.
 fn room() -> [u8; 1075200] {
     [0u8; 1075200]
 }
 
-// Puts the one line of a refusal; inner.
+// Puts the one line of a refusal.
 fn put_refused(text: &mut [u8], r: Refusal) -> usize
     requires { ⌜ 20 ≤ length (now text) ⌝ }
     ensures { λ e. ⌜ Put (now (text .entry)) 0 (refusedWord ++ field (r .number) (lastField (r .record) [])) (now (text .exit)) e ⌝ }
@@ -28,21 +28,21 @@ fn put_refused(text: &mut [u8], r: Refusal) -> usize
     text_put::put_line(text, b"refused ", r.number as u16, r.record)
 }
 
-// Fills the text with the listing by a table, and answers its length; inner. There is always room for it: the equations
+// Fills the text with the listing by a table, and answers its length. There is always room for it: the equations
 // hold of the arm without room only because it never comes to it.
 fn list(it: &[u8], table: &[u8], text: &mut [u8]) -> usize
     requires { ⌜ 1075200 ≤ length (now text) ⌝ }
     ensures { λ r. ⌜ (r ≡ length (textOr (listable (now (it .entry)) (now (table .entry))) (listOf (records (now (it .entry))) (suspects (now (table .entry))))))
         × (now (text .exit) ≡ over (textOr (listable (now (it .entry)) (now (table .entry))) (listOf (records (now (it .entry))) (suspects (now (table .entry))))) (now (text .entry))) ⌝ }
 {
-    match textwrite::list_text(it, table, text) {
+    match text_write::list_text(it, table, text) {
         TextWritten::Refused(r) => put_refused(text, r),
         TextWritten::Length(len) => len,
         TextWritten::NoRoom(_) => 0,
     }
 }
 
-// Fills the text with what the program writes by the table that it makes, and answers its length; inner.
+// Fills the text with what the program writes by the table that it makes, and answers its length.
 fn list_made(it: &[u8], policy: &[u8], table: &mut [u8], text: &mut [u8]) -> usize
     requires { ⌜ 1075200 ≤ length (now text) ⌝ }
     ensures { λ r. ⌜ (r ≡ length (listed (now (it .entry)) (now (policy .entry)) (now (table .entry))))
@@ -50,7 +50,7 @@ fn list_made(it: &[u8], policy: &[u8], table: &mut [u8], text: &mut [u8]) -> usi
         × (now (table .exit) ≡ makeAfter (now (it .entry)) (now (policy .entry)) (now (table .entry)))
         × (r ≤ length (now (text .exit))) ⌝ }
 {
-    match analysis::make(it, policy, table) {
+    match calls::make(it, policy, table) {
         Made::Refused(r) => put_refused(text, r),
         Made::Done(_) => list(it, table, text),
     }

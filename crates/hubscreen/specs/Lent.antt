@@ -10,16 +10,17 @@ use mathlib.Core.Option.{Option}
 use mathlib.Core.Path.{_∙_, _≡_, ap, refl, sym}
 use native.Mathlib.Decide.{decLe}
 use native.Mathlib.Omega.{arith}
-use Rattle.itinerary.specs.Laws.{valid-few, valid-size}
 use Rattle.listing.specs.Lines.{shown}
-use Rattle.model.specs.Calls.{screenAnswer, screenAnswers, screening}
+use Rattle.model.specs.Calls.{entry, screenAnswer, screenAnswers, screening}
 use Rattle.model.specs.Laws.Checks.{need-pass, then-pass}
-use Rattle.model.specs.Laws.WellFormed.{and-left, and-right}
+use Rattle.model.specs.Laws.Booleans.{and-left, and-right}
 use Rattle.model.specs.Listing.{contentOf, hubscreen, listing, written}
 use Rattle.model.specs.Refusals.{Check, answer, content, pass, refuse, refused}
 use Rattle.model.specs.Scripts.{scriptRight}
 use Rattle.model.specs.Tables.{policyRight}
 use Rattle.model.specs.Validity.{sizeRight, validity}
+use Rattle.model.specs.Laws.Bytes.{valid-few}
+use Rattle.model.specs.Laws.Bytes.{valid-size}
 
 -- how many answers are lent for a script of which n bytes are there, by whether it has more
 unfoldable pub answersFor : Bool → ℕ → ℕ
@@ -97,17 +98,17 @@ part-script {file} {part} {answers} r = go (decLe (length file) 4096)
 
 module _ {S s P p Z z a : List ℕ} (e : Part 8192 S s) (f : Part 64 P p) (g : ScriptPart Z z a) where
   same-checks : screening s p z a ≡ screening S P Z (replicate (length Z / 4) 0)
-  unfolding screening
+  unfolding screening entry
   same-checks = rw (part-validity e, part-policy f, part-script g, length-replicate {0} {A = ℕ} (length Z / 4) 0)
 
   -- files that the checks pass are lent whole
   whole-parts : screening S P Z (replicate (length Z / 4) 0) ≡ pass → (s ≡ S) × (p ≡ P) × (z ≡ Z)
-  unfolding screening policyRight scriptRight
+  unfolding screening entry policyRight scriptRight
   whole-parts h =
-      let c = then-pass _ _ h in
-      let d = then-pass _ _ (c .1) in
+      let d = then-pass _ _ h in
+      let c = then-pass _ _ (d .0) in
       let script = need-pass _ 13 0 (d .1) in
-      let policy : length P ≡ 64 = eqb-true _ _ (and-left _ _ (need-pass _ 7 0 (d .0))) in
+      let policy : length P ≡ 64 = eqb-true _ _ (and-left _ _ (need-pass _ 7 0 (c .1))) in
       let few : length Z ≤ 4096 = leb-true _ _ (and-left _ _ (and-right (eqb (length Z % 4) 0) _ script)) in
       (e .whole (valid-few S (c .0)), f .whole (omega arith), g .whole few .0)
 

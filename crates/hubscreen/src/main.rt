@@ -18,7 +18,7 @@ ghost use Rattle.model.specs.Refusals.{done};
 ghost use Rattle.model.specs.Scripts.{scriptRight, stepsIn};
 ghost use Rattle.text_put.specs.Puts.{Put, over};
 
-// Puts line one: verdict, its label (0 if sealed), bits set; inner.
+// Puts line one: verdict, its label (0 if sealed), bits set.
 fn put_verdict(text: &mut [u8], v: Verdict, ones: u16) -> usize
     requires { ⌜ 20 ≤ length (now text) ⌝ }
     ensures { λ r. ⌜ Put (now (text .entry)) 0 (verdictWord v ++ field (labelOf v) (lastField ones [])) (now (text .exit)) r ⌝ }
@@ -30,7 +30,7 @@ fn put_verdict(text: &mut [u8], v: Verdict, ones: u16) -> usize
     }
 }
 
-// Puts the one line of a refusal; inner.
+// Puts the one line of a refusal.
 fn put_refused(text: &mut [u8], r: Refusal) -> usize
     requires { ⌜ 20 ≤ length (now text) ⌝ }
     ensures { λ e. ⌜ Put (now (text .entry)) 0 (listing (refusal r) [] []) (now (text .exit)) e ⌝ }
@@ -38,7 +38,7 @@ fn put_refused(text: &mut [u8], r: Refusal) -> usize
     text_put::put_line(text, b"refused ", r.number as u16, r.record)
 }
 
-// Puts line one, a line for each step, and the last line; inner.
+// Puts line one, a line for each step, and the last line.
 fn put_screen(text: &mut [u8], s: Screen, script: &[u8], answers: &[u8]) -> usize
     requires { ⌜ (scriptRight (now script) (length (now answers)) ≡ true)
         × (48 + length (stepLines (stepsIn (now script)) (now answers) []) ≤ length (now text)) ⌝ }
@@ -65,7 +65,7 @@ fn screen_text(
         × (now (it .exit) ≡ screenAfter (now (it .entry)) (now (policy .entry)) (now (script .entry)) (now (answers .entry)))
         × (now (answers .exit) ≡ screenAnswers (now (it .entry)) (now (policy .entry)) (now (script .entry)) (now (answers .entry))) ⌝ }
 {
-    match screen::screen(it, policy, script, answers) {
+    match calls::screen(it, policy, script, answers) {
         Screened::Refused(r) => put_refused(text, r),
         Screened::Done(s) => put_screen(text, s, script, answers),
     }

@@ -1,19 +1,19 @@
 // Reads itinerary.bin and writes the text form of the itinerary, or the line of its refusal.
-use textform::TextWritten;
+use text_form::TextWritten;
 ghost use mathlib.Core.Path.{_≡_};
 ghost use Prim.Native.Nat.{_≤_};
 ghost use lib.ListN.{length};
 ghost use Rattle.model.specs.Records.{records};
 ghost use Rattle.model.specs.Validity.{validity};
 ghost use Rattle.text_put.specs.Puts.{over};
-ghost use Rattle.textform.specs.Writing.{textOf, textOr};
+ghost use Rattle.text_form.specs.Writing.{textOf, textOr};
 
 // Room for the longest text of 1,024 lines.
 fn room() -> [u8; 1061888] {
     [0u8; 1061888]
 }
 
-// Fills the text with what the program writes, and answers its length; inner. There is always room for it: the equations
+// Fills the text with what the program writes, and answers its length. There is always room for it: the equations
 // hold of the arm without room only because it never comes to it.
 fn show_text(it: &[u8], text: &mut [u8]) -> usize
     requires { ⌜ 1061888 ≤ length (now text) ⌝ }
@@ -21,7 +21,7 @@ fn show_text(it: &[u8], text: &mut [u8]) -> usize
         × (now (text .exit) ≡ over (textOr (validity (now (it .entry))) (textOf (records (now (it .entry))))) (now (text .entry)))
         × (r ≤ length (now (text .exit))) ⌝ }
 {
-    match textwrite::write_text(it, text) {
+    match text_write::write_text(it, text) {
         TextWritten::Refused(r) => text_put::put_line(text, b"refused ", r.number as u16, r.record),
         TextWritten::Length(len) => len,
         TextWritten::NoRoom(_) => 0,

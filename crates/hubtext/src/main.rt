@@ -1,7 +1,7 @@
 // Reads itinerary.txt, the text form of an itinerary, and writes the itinerary's bytes. Where the text has a fault it
 // writes none, and one line on standard error: the lowest line at fault, and the cause.
 use libc::STDERR_FILENO;
-use textform::TextRead;
+use text_form::TextRead;
 
 // Room for the longest text of 1,024 records, and one byte more, by which the reader tells that a text is longer.
 fn room() -> [u8; 1061889] {
@@ -52,7 +52,7 @@ fn show_fault(line: u16, cause: u8) {
 }
 
 fn convert(text: &[u8], it: &mut [u8]) {
-    match textread::read_text(text, it) {
+    match text_read::read_text(text, it) {
         TextRead::Records(k) => files::first(it, 8 * (k as usize)),
         TextRead::Fault { line, cause } => show_fault(line, cause),
     }

@@ -7,7 +7,6 @@ use mathlib.Core.List.{List, [], _++_, _∷_, append-assoc}
 use mathlib.Core.Path.{_∙_, _≡_, ap, refl, sym}
 use native.Mathlib.Nat.{zero-add}
 use native.Mathlib.Omega.{arith}
-use Rattle.calculus.specs.Runs.{Script, length-steps}
 use Rattle.model.specs.Laws.Finite.{getD-tabulate}
 use Rattle.model.specs.Listing.{endLine, endWord, field, lastField, listing, stepLines, verdictWord}
 use Rattle.model.specs.Records.{byte, word}
@@ -20,6 +19,7 @@ use Rattle.model.specs.declared.Verdict.the-variants.{Exposed, Hinted, Sealed}
 use Rattle.text_put.specs.Laws.{field-few, field-length, field-then, last-few, last-then, line-few, put-as, put-then, putting-room, putting-start}
 use Rattle.text_put.specs.Puts.{Put, Putting}
 use Rattle.listing.specs.Lines.{countFields, stepLine}
+use Rattle.scripts.specs.Runs.{Script, length-steps}
 
 -- the parts of a step's line
 pub step-length : (x y a : ℕ) → length (stepLine x y a) ≡ length (field x []) + (length (field y []) + length (lastField a []))

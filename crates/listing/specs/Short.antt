@@ -7,12 +7,11 @@ use mathlib.Core.List.{List, [], _∷_}
 use mathlib.Core.Option.{Option, none, some}
 use mathlib.Core.Path.{_≡_, ap, refl}
 use native.Mathlib.Omega.{arith}
-use Rattle.calculus.specs.Runs.{length-steps, script-of}
-use Rattle.model.specs.Analysis.{Permit, free}
+use Rattle.model.specs.Analysis.{Permit, permitAll}
 use Rattle.model.specs.Calls.{screenAnswer, screenAnswers, screening}
 use Rattle.model.specs.Laws.Checks.{answer-done, need-pass, then-pass}
 use Rattle.model.specs.Listing.{endWord, listing, refusedWord, stepLines}
-use Rattle.model.specs.Records.{Capability, records}
+use Rattle.model.specs.Records.{records}
 use Rattle.model.specs.Refusals.{Answer, content, done, pass, refused}
 use Rattle.model.specs.Scripts.{Step, answersOf, outcomes, scriptRight, stepsIn}
 use Rattle.model.specs.Steps.{answerOf, decide, outcome, outcomeBy, stepBytes}
@@ -23,6 +22,8 @@ use Rattle.text_put.specs.Digits.{digits-two}
 use Rattle.text_put.specs.Laws.{field-few, last-length, line-few}
 use Rattle.listing.specs.Laws.{counts-few, line-first, listing-parts, step-length, verdict-few}
 use Rattle.listing.specs.Lines.{shown, stepLine}
+use Rattle.scripts.specs.Runs.{length-steps, script-of}
+use Rattle.model.specs.declared.Capability.{Capability}
 
 -- an answer is 0, 10, 11 or 12
 decide-few : (k : Capability) (r f : Bool) → answerOf (decide k r f) ≤ 12
@@ -45,13 +46,13 @@ line-short : (x y a : ℕ) → a ≤ 12 → length (stepLine x y a) ≤ 15
 line-short x y a h = omega (arith, step-length x y a, field-few x, field-few y, last-length a [], digits-two a (omega arith))
 
 -- the lines of all steps
-lines-short : (s : List ℕ) (ms : List Step) → length (stepLines ms (answersOf free s ms) []) ≤ 15 * length ms
+lines-short : (s : List ℕ) (ms : List Step) → length (stepLines ms (answersOf permitAll s ms) []) ≤ 15 * length ms
 unfolding answersOf outcomes stepLines
 lines-short s [] = omega arith
 lines-short s (m ∷ ms) =
-    let a = answerOf (outcome free (records s) (m .actor) (m .partner)) in
-    let next = stepBytes free s (m .actor) (m .partner) in
-    omega (arith, ap length (line-first m ms a (answersOf free next ms)), length-append (stepLine (m .actor) (m .partner) a) (stepLines ms (answersOf free next ms) []), line-short (m .actor) (m .partner) a (answer-few free (records s) (m .actor) (m .partner)), lines-short next ms)
+    let a = answerOf (outcome permitAll (records s) (m .actor) (m .partner)) in
+    let next = stepBytes permitAll s (m .actor) (m .partner) in
+    omega (arith, ap length (line-first m ms a (answersOf permitAll next ms)), length-append (stepLine (m .actor) (m .partner) a) (stepLines ms (answersOf permitAll next ms) []), line-short (m .actor) (m .partner) a (answer-few permitAll (records s) (m .actor) (m .partner)), lines-short next ms)
 
 -- a screen that is done had a right script, and its steps' lines are short
 module _ (s policy z answers : List ℕ) (x : Screen) (d : screenAnswer s policy z answers ≡ done x) where
@@ -61,7 +62,7 @@ module _ (s policy z answers : List ℕ) (x : Screen) (d : screenAnswer s policy
 
   pub done-script : scriptRight z (length answers) ≡ true
   unfolding screening
-  done-script = need-pass _ 13 0 (then-pass _ _ (then-pass _ _ passes .1) .1)
+  done-script = need-pass _ 13 0 (then-pass _ _ passes .1)
 
   pub done-short : length (stepLines (stepsIn z) (screenAnswers s policy z answers) []) ≤ 15360
   unfolding screenAnswers content

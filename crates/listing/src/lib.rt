@@ -10,7 +10,7 @@ ghost use Rattle.model.specs.Scripts.{scriptRight, stepsIn};
 ghost use Rattle.listing.specs.Lines.{countFields, stepLine};
 ghost use Rattle.text_put.specs.Puts.{Put};
 
-// Puts the line of a step: actor, partner, answer; inner.
+// Puts the line of a step: actor, partner, answer.
 fn put_step(text: &mut [u8], at: usize, actor: u16, partner: u16, answer: u8) -> usize
     requires { ⌜ at + length (stepLine actor partner answer) ≤ length (now text) ⌝ }
     ensures { λ r. ⌜ Put (now (text .entry)) at (stepLine actor partner answer) (now (text .exit)) r ⌝ }
@@ -20,7 +20,7 @@ fn put_step(text: &mut [u8], at: usize, actor: u16, partner: u16, answer: u8) ->
     text_put::put_last(text, third, answer as u16)
 }
 
-// Puts a line for each step of a script that was run; inner.
+// Puts a line for each step of a script that was run.
 pub fn put_steps(text: &mut [u8], at: usize, script: &[u8], answers: &[u8]) -> usize
     requires { ⌜ (scriptRight (now script) (length (now answers)) ≡ true)
         × (at + length (stepLines (stepsIn (now script)) (now answers) []) ≤ length (now text)) ⌝ }
@@ -31,15 +31,15 @@ pub fn put_steps(text: &mut [u8], at: usize, script: &[u8], answers: &[u8]) -> u
     let mut k: usize = 0;
     while k < n {
         let j = 4 * k;
-        let actor = reading::word(script[j], script[j + 1]);
-        let partner = reading::word(script[j + 2], script[j + 3]);
+        let actor = records::word(script[j], script[j + 1]);
+        let partner = records::word(script[j + 2], script[j + 3]);
         end = put_step(text, end, actor, partner, answers[k]);
         k += 1;
     }
     end
 }
 
-// Puts what stands after the last line's word: ins, outs, opens done, records not gone; inner.
+// Puts what stands after the last line's word: ins, outs, opens done, records not gone.
 pub fn put_counts(text: &mut [u8], at: usize, s: Screen) -> usize
     requires { ⌜ at + 24 ≤ length (now text) ⌝ }
     ensures { λ r. ⌜ Put (now (text .entry)) at (countFields s) (now (text .exit)) r ⌝ }

@@ -16,8 +16,8 @@ abbrev pub Permit : Type 0
 Permit = Capability → ℕ → ℕ → Bool
 
 -- every capability may act on every partner: "A boundary never stops a step."
-abbrev pub free : Permit
-free k a b = true
+abbrev pub permitAll : Permit
+permitAll k a b = true
 
 -- b where a is true
 unfoldable pub onlyIf : Bool → Bool → Bool

@@ -11,19 +11,19 @@ abbrev pub climb : (ℕ → ℕ) → ℕ → ℕ → ℕ
 climb parent zero i = i
 climb parent (suc k) i = climb parent k (parent i)
 
--- What is found by climbing: the environment has the value top, a record makes its own from its parent's,
--- and lost stands where the climbs run out
+-- What is found by climbing: the environment has the value top, the record of a number makes its own from its parent's, and
+-- lost stands where the climbs run out
 pub record View (A : Type 0) : Type 0 where
   pub top : A
   pub lost : A
-  pub make : Rec → A → A
+  pub make : ℕ → Rec → A → A
 
 -- the value at number i, with at most n climbs
 unfoldable pub viewFrom : {A : Type 0} → View A → List Rec → ℕ → ℕ → A
 viewFrom v its zero zero = v .top
 viewFrom v its zero (suc i) = v .lost
 viewFrom v its (suc n) zero = v .top
-viewFrom v its (suc n) (suc i) = v .make (at its (suc i)) (viewFrom v its n (parentOf its (suc i)))
+viewFrom v its (suc n) (suc i) = v .make (suc i) (at its (suc i)) (viewFrom v its n (parentOf its (suc i)))
 
 -- the value at number i: one climb more than there are records serves numbers over the count too
 unfoldable pub view : {A : Type 0} → View A → List Rec → ℕ → A
@@ -31,7 +31,7 @@ view v its i = viewFrom v its (suc (length its)) i
 
 -- whether the environment is reached
 abbrev pub reaching : View Bool
-reaching = record { top = true; lost = false; make = λ r x. x }
+reaching = record { top = true; lost = false; make = λ i r x. x }
 
 -- "Climbing from a record to its parent, as often as there are records, must reach 0."
 unfoldable pub reaches : List Rec → ℕ → Bool
@@ -43,7 +43,7 @@ labelled r x = elim (isAmbient r) [ true ↦ r .label | false ↦ x ]
 
 -- the nearest label, 0 at the environment
 abbrev pub nesting : View ℕ
-nesting = record { top = 0; lost = 0; make = labelled }
+nesting = record { top = 0; lost = 0; make = λ i. labelled }
 
 -- the label of the nearest ambient from number i on upwards, or 0
 abbrev pub nearest : List Rec → ℕ → ℕ
@@ -59,7 +59,7 @@ ambientAnd r x = elim (isAmbient r) [ true ↦ x | false ↦ false ]
 
 -- whether all are ambients
 abbrev pub standing : View Bool
-standing = record { top = true; lost = false; make = ambientAnd }
+standing = record { top = true; lost = false; make = λ i. ambientAnd }
 
 -- number i and all records above it are ambients: 01's "active" asks this of a capability's parent (`ready`)
 abbrev pub ambients : List Rec → ℕ → Bool
@@ -75,7 +75,7 @@ hides S r x = elim (isSuspect S r) [ true ↦ true | false ↦ x ]
 
 -- whether one of them is suspect
 abbrev pub hiding : (ℕ → Bool) → View Bool
-hiding S = record { top = false; lost = false; make = hides S }
+hiding S = record { top = false; lost = false; make = λ i. hides S }
 
 -- 01's "hidden": "it, or a record above it, is an ambient whose label is in S"
 abbrev pub hidden : List Rec → (ℕ → Bool) → ℕ → Bool

@@ -1,4 +1,5 @@
 -- What is proved of the definitions.
+pub mod Booleans
 pub mod Finite
 pub mod Forest
 pub mod Updates

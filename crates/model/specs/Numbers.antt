@@ -14,6 +14,8 @@ use Rattle.model.specs.declared.Refusal.{Refusal}
 use Rattle.model.specs.declared.Verdict.{Verdict}
 use Rattle.model.specs.declared.Verdict.the-variants as verdict
 use Rattle.model.specs.declared.Counts.{Counts}
+use Rattle.model.specs.declared.Checked.{Checked}
+use Rattle.model.specs.declared.Checked.the-variants as checked
 use Rattle.model.specs.declared.Performed.{Performed}
 use Rattle.model.specs.declared.Performed.the-variants as performed
 use Rattle.model.specs.declared.Validated.{Validated}
@@ -39,6 +41,11 @@ readingOf s i = readingBy (recordCheck s i) (decode s i)
 -- "number, record"
 unfoldable pub refusal : {A : Type 0} → Refusal → Answer A
 refusal r = refused (r .number) (r .record)
+
+-- what the checks of a call found
+unfoldable pub checkedAs : Checked → Check
+checkedAs checked.Pass = pass
+checkedAs (checked.Refuse r) = refuse (r .number) (r .record)
 
 -- step, sheet, table check: nothing but that it was done
 unfoldable pub performedAs : Performed → Answer (Unit {0})

@@ -10,7 +10,7 @@ use mathlib.Core.List.{List, [], _∷_}
 use mathlib.Core.Logic.{_≢_}
 use mathlib.Core.Option.{some}
 use mathlib.Core.Path.{_≡_}
-use Rattle.model.specs.Analysis.{Permit, free}
+use Rattle.model.specs.Analysis.{Permit, permitAll}
 use Rattle.model.specs.Calls.{stepAfter, stepAnswer, validateAnswer}
 use Rattle.model.specs.Finite.{digit}
 use Rattle.model.specs.Noninterference.{Event, after, given}
@@ -55,7 +55,7 @@ pub data Congruent : Process → Process → Type 0 where
   unit : {P : Process} → Congruent (P ‖ nothing) P
 
 -- Table 2, the transition relation P → Q, in an ambient of label w, 0 in none. The permit is asked with the label of the
--- ambient that holds the capability and with the partner's; where all is permitted (`free`) w plays no part
+-- ambient that holds the capability and with the partner's; where all is permitted (`permitAll`) w plays no part
 -- (`reduces-anywhere`).
 pub data Reduces (permit : Permit) : ℕ → Process → Process → Type 0 where
   -- P → Q ⇒ n[P] → n[Q]
@@ -119,15 +119,15 @@ pub record FollowsRules (s : List ℕ) : Type 0 where
   pub closed : {P Q : Process} → Means (records s) P → Congruent P Q → Means (records s) Q
   -- a step that is done is a reduction
   pub sound : {P : Process} → Means (records s) P → (c b : ℕ) → stepAnswer s c b ≡ done tt →
-      (Q : Process) × Reduces free 0 P Q × Means (records (stepAfter s c b)) Q
+      (Q : Process) × Reduces permitAll 0 P Q × Means (records (stepAfter s c b)) Q
   -- a reduction is a step that is done
-  pub complete : {P Q : Process} → Means (records s) P → Reduces free 0 P Q →
+  pub complete : {P Q : Process} → Means (records s) P → Reduces permitAll 0 P Q →
       (c : ℕ) × (b : ℕ) × (stepAnswer s c b ≡ done tt) × Means (records (stepAfter s c b)) Q
   -- a list of events, singly or in scripts, is a chain of reductions, one for each step that was done
   pub chained : {P : Process} → Means (records s) P → (es : List Event) →
-      (Q : Process) × Chain free (doneIn (given s es)) P Q × Means (records (after s es)) Q
+      (Q : Process) × Chain permitAll (doneIn (given s es)) P Q × Means (records (after s es)) Q
   -- a chain of reductions is a list of as many steps, each done
-  pub listed : {P Q : Process} {n : ℕ} → Means (records s) P → Chain free n P Q →
+  pub listed : {P Q : Process} {n : ℕ} → Means (records s) P → Chain permitAll n P Q →
       (es : List Event) × (given s es ≡ replicate n 0) × Means (records (after s es)) Q
 
 -- demand 2: "Steps follow the published rules of Mobile Ambients."

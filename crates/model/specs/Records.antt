@@ -8,6 +8,9 @@ use mathlib.Core.List.{List, [], _∷_}
 use mathlib.Core.Option.{Option, none, some}
 use Rattle.model.specs.Finite.{tabulate}
 use Rattle.model.specs.declared.Rec.{Rec}
+-- "Kinds 2 to 4 are capabilities.": the code's enum
+pub use Rattle.model.specs.declared.Capability.{Capability}
+pub use Rattle.model.specs.declared.Capability.the-variants.{In as cap-in, Open as cap-open, Out as cap-out}
 
 -- byte j of a list, 0 past its end
 abbrev pub byte : List ℕ → ℕ → ℕ
@@ -64,10 +67,6 @@ update f its = updateFrom f 1 its
 -- "1 ambient"
 unfoldable pub isAmbient : Rec → Bool
 isAmbient r = eqb (r .kind) 1
-
--- "Kinds 2 to 4 are capabilities."
-pub data Capability : Type 0 where
-  cap-in cap-out cap-open : Capability
 
 -- "2 in, 3 out, 4 open"
 unfoldable pub capability : ℕ → Option Capability

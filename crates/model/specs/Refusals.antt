@@ -22,6 +22,11 @@ unfoldable pub andThen : Check → Check → Check
 andThen pass next = next
 andThen (refuse n r) next = refuse n r
 
+-- checks in the order they are written
+infixl 4 _▸_
+abbrev pub _▸_ : Check → Check → Check
+c ▸ next = andThen c next
+
 -- "record by record": the first of the n numbers from i on that the check refuses decides
 unfoldable pub eachOf : (ℕ → Check) → ℕ → ℕ → Check
 eachOf check i zero = pass

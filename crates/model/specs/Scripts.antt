@@ -7,7 +7,7 @@ use mathlib.Core.List.{List, [], _∷_, map}
 use Rattle.model.specs.Analysis.{Permit}
 use Rattle.model.specs.Finite.{unequal, tabulate, tally}
 use Rattle.model.specs.Records.{Capability, at, byte, cap-in, cap-open, cap-out, records, word}
-use Rattle.model.specs.Steps.{Outcome, answerOf, met, outcome, stepBytes, unmet}
+use Rattle.model.specs.Steps.{Outcome, answerOf, done-by, outcome, stepBytes, refused-with}
 use Rattle.model.specs.declared.Counts.{Counts}
 use Rattle.model.specs.declared.Rec.{Rec}
 
@@ -50,8 +50,8 @@ kindOf cap-open = 4
 
 -- 1 for a step of this kind that was done
 unfoldable pub doneBy : ℕ → Outcome → ℕ
-doneBy kind (unmet n) = 0
-doneBy kind (met k) = elim (eqb kind (kindOf k)) [ true ↦ 1 | false ↦ 0 ]
+doneBy kind (refused-with n) = 0
+doneBy kind (done-by k) = elim (eqb kind (kindOf k)) [ true ↦ 1 | false ↦ 0 ]
 
 -- how many steps of a kind were done
 unfoldable pub howMany : ℕ → List Outcome → ℕ

@@ -9,6 +9,9 @@ use Rattle.model.specs.Climbing.{ambients}
 use Rattle.model.specs.Finite.{unequal}
 use Rattle.model.specs.Records.{Capability, at, cap-in, cap-open, cap-out, capability, encode, gone, isAmbient, parentOf, records, update}
 use Rattle.model.specs.declared.Rec.{Rec}
+-- what becomes of a step: done, by which capability, or refused with a number; the code's enum
+pub use Rattle.model.specs.declared.Outcome.{Outcome}
+pub use Rattle.model.specs.declared.Outcome.the-variants.{Done as done-by, Refused as refused-with}
 
 -- the record with another parent
 abbrev pub to : ℕ → Rec → Rec
@@ -61,20 +64,15 @@ move cap-out its c b = dissolve c (place (parentOf its c) (parentOf its b) its)
 -- "its children go to that parent, and it becomes gone"
 move cap-open its c b = dissolve c (dissolve b its)
 
--- what becomes of a step: refused with a number, or done with the actor's kind
-pub data Outcome : Type 0 where
-  unmet : ℕ → Outcome
-  met : Capability → Outcome
-
 -- 11: "actor inactive, or in/out without an ambient as parent"; 12: "partner unfit for any cause"
 unfoldable pub decide : Capability → Bool → Bool → Outcome
-decide k false f = unmet 11
-decide k true false = unmet 12
-decide k true true = met k
+decide k false f = refused-with 11
+decide k true false = refused-with 12
+decide k true true = done-by k
 
 -- 10: "actor 0, over the count, or no capability"
 unfoldable pub outcomeBy : Permit → Option Capability → List Rec → ℕ → ℕ → Outcome
-outcomeBy permit none its c b = unmet 10
+outcomeBy permit none its c b = refused-with 10
 outcomeBy permit (some k) its c b = decide k (ready k its (parentOf its c)) (fit permit k its c b)
 
 -- the outcome of a step by the actor c with the partner b
@@ -83,8 +81,8 @@ outcome permit its c b = outcomeBy permit (capability (at its c .kind)) its c b
 
 -- the records after a step with this outcome
 unfoldable pub effect : Outcome → List Rec → ℕ → ℕ → List Rec
-effect (unmet n) its c b = its
-effect (met k) its c b = move k its c b
+effect (refused-with n) its c b = its
+effect (done-by k) its c b = move k its c b
 
 -- the records after a step
 unfoldable pub step : Permit → List Rec → ℕ → ℕ → List Rec
@@ -92,13 +90,13 @@ step permit its c b = effect (outcome permit its c b) its c b
 
 -- "A step's answer is 0 where done, otherwise its refusal's number"
 unfoldable pub answerOf : Outcome → ℕ
-answerOf (unmet n) = n
-answerOf (met k) = 0
+answerOf (refused-with n) = n
+answerOf (done-by k) = 0
 
 -- the bytes after a step with this outcome
 unfoldable pub rewritten : Outcome → List ℕ → ℕ → ℕ → List ℕ
-rewritten (unmet n) s c b = s
-rewritten (met k) s c b = encode (move k (records s) c b)
+rewritten (refused-with n) s c b = s
+rewritten (done-by k) s c b = encode (move k (records s) c b)
 
 -- the bytes after a step: "No other byte changes."
 unfoldable pub stepBytes : Permit → List ℕ → ℕ → ℕ → List ℕ

@@ -2,8 +2,8 @@
 use Prim.Native.Nat.{_%_, _*_, _+_, _/_, _^_, ℕ}
 use lib.Count.{ones}
 use lib.Dec.{eqb, leb}
-use lib.ListN.{drop, length, take}
-use mathlib.Core.Bool.{Bool, _&&_, false, not, true}
+use lib.ListN.{length}
+use mathlib.Core.Bool.{Bool, _&&_, not, true}
 use mathlib.Core.List.{List, [], _∷_}
 use Rattle.model.specs.Finite.{every}
 use Rattle.model.specs.Records.{byte}
@@ -67,16 +67,6 @@ unfoldable pub tableRight : List ℕ → Bool
 tableRight table =
     tableSized table
     && (every 64 (λ a. true) (λ a. not (bits table (placeI a 0))) && every 64 (λ n. true) (λ n. not (bits table (placeH 0 n))))
-
--- the part, or the empty one
-unfoldable pub partIf : Bool → List ℕ → List ℕ
-partIf true part = part
-partIf false part = []
-
--- the row request's content (that it is "that very part of the lent table" the call's contract says of its place):
--- "the 16 bytes of a label's row", the empty part "for a label above 63 or a table not 1,544 long"
-unfoldable pub rowOf : List ℕ → ℕ → List ℕ
-rowOf table label = partIf (tableSized table && leb label 63) (take 16 (drop (16 * label) table))
 
 -- "how many bits of all 1,544 bytes are one"
 unfoldable pub total : List ℕ → ℕ

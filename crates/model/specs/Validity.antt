@@ -8,7 +8,7 @@ use mathlib.Core.List.{List}
 use Rattle.model.specs.Climbing.{reaches}
 use Rattle.model.specs.Finite.{unequal}
 use Rattle.model.specs.Records.{byteOf, count, decode, isAmbient, nested, records}
-use Rattle.model.specs.Refusals.{Check, andThen, eachOf, need}
+use Rattle.model.specs.Refusals.{Check, _▸_, eachOf, need}
 use Rattle.model.specs.declared.Rec.{Rec}
 
 -- 1: "itinerary length no multiple of 8, or over 8,192"
@@ -64,15 +64,22 @@ parentRight s (suc p) = leb (suc p) (count s) && unequal (byteOf s (suc p) 0) 0
 unfoldable pub recordCheck : List ℕ → ℕ → Check
 recordCheck s i =
     let r = decode s i in
-    andThen (need (kindRight r && (spareRight s i && goneRight r)) 2 i)
-    (andThen (need (labelRight r) 3 i) (andThen (need (nameRight r) 4 i) (need (parentRight s (r .parent)) 5 i)))
+    need (kindRight r && (spareRight s i && goneRight r)) 2 i
+    ▸ need (labelRight r) 3 i
+    ▸ need (nameRight r) 4 i
+    ▸ need (parentRight s (r .parent)) 5 i
 
 -- 6: "climbing doesn't reach 0", "lowest such record"
 unfoldable pub climbCheck : List Rec → ℕ → Check
 climbCheck its i = need (reaches its i) 6 i
 
--- "Order: 1; then record by record 2 to 5; then 6"
+-- "Order: 1; then record by record 2 to 5; then 6": what makes bytes an itinerary
+unfoldable pub form : List ℕ → Check
+form s =
+    need (sizeRight s) 1 0
+    ▸ eachOf (recordCheck s) 1 (count s)
+    ▸ eachOf (climbCheck (records s)) 1 (count s)
+
+-- the causes that every call on an itinerary looks for first: 1 to 6
 unfoldable pub validity : List ℕ → Check
-validity s =
-    andThen (need (sizeRight s) 1 0)
-    (andThen (eachOf (recordCheck s) 1 (count s)) (eachOf (climbCheck (records s)) 1 (count s)))
+validity s = form s

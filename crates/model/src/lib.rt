@@ -8,6 +8,19 @@ pub struct Rec {
     pub parent: u16,
 }
 
+// What a capability does.
+pub enum Capability {
+    In,
+    Out,
+    Open,
+}
+
+// What becomes of a step: done, by which capability, or refused, with its number.
+pub enum Outcome {
+    Done(Capability),
+    Refused(u8),
+}
+
 // How many in, out and open steps a script run did.
 pub struct Counts {
     pub ins: u16,
@@ -26,6 +39,12 @@ pub enum Verdict {
 pub struct Refusal {
     pub number: u8,
     pub record: u16,
+}
+
+// What the checks of a call have found so far: they pass, or the first of them that refuses.
+pub enum Checked {
+    Pass,
+    Refuse(Refusal),
 }
 
 // What reading a record finds: the record, or the number of the first limit it breaks.

@@ -1,6 +1,5 @@
 -- Laws of the sheet as the code makes it.
 use Prim.Native.Nat.{_<_, _≤_, suc, zero, ℕ}
-use borrow.Author.Tests.{eq-eqb, ne-eqb}
 use lib.Dec.{eqb}
 use lib.ListN.{drop, drop-of-length-le, getD, length, length-replicate, length-set, set, take}
 use lib.Seq.{getD-set-other, getD-set-same, take-all}
@@ -10,23 +9,19 @@ use mathlib.Core.Logic.{_≢_}
 use mathlib.Core.Path.{_∙_, _≡_, ap, ap₂, refl, sym}
 use native.Mathlib.Decide.{ℕ-discrete}
 use native.Mathlib.Omega.{arith}
-use Rattle.itinerary.specs.Laws.{ambient-is, content-kept, content-new, done-answer, need-refuse, refuse-answer, then-next, then-refuse, valid-few, zeros}
-use Rattle.itinerary.specs.Nearest.{here}
-use Rattle.model.specs.Calls.{sheetAfter, sheetAnswer, showing}
 use Rattle.model.specs.Climbing.{hidden, isSuspect}
-use Rattle.model.specs.Laws.Bytes.{valid-wf}
-use Rattle.model.specs.Laws.Checks.{need-make}
+use Rattle.model.specs.Laws.Bytes.{valid-few, valid-wf}
 use Rattle.model.specs.Laws.Containers.{hidden-root, hidden-suspect, hidden-up}
 use Rattle.model.specs.Laws.Finite.{replicated}
-use Rattle.model.specs.Numbers.{refusal}
-use Rattle.model.specs.Observer.{onSheet, sheetOf}
+use Rattle.model.specs.Observer.{onSheet}
 use Rattle.model.specs.Records.{count, decode, gone, records}
-use Rattle.model.specs.Refusals.{done, pass, refuse}
-use Rattle.model.specs.Tables.{suspects, tableRight}
+use Rattle.model.specs.Refusals.{pass}
+use Rattle.model.specs.Tables.{suspects}
 use Rattle.model.specs.Validity.{validity}
 use Rattle.model.specs.declared.Rec.{Rec}
-use Rattle.model.specs.declared.Refusal.{Refusal}
 use Rattle.observer.specs.Marks.{Markable, Marked, markOf}
+use Rattle.records.specs.Climbs.{ambient-is, zeros}
+use Rattle.climbing.specs.Nearest.{here}
 
 -- r is record i of a valid itinerary
 module _ (s : List ℕ) (v : validity s ≡ pass) (i : ℕ) (r : Rec) (e : r ≡ decode s i) (S : ℕ → Bool) where
@@ -112,30 +107,3 @@ module _ (its : List Rec) (S : ℕ → Bool) (i : ℕ) (r : Rec) {b : Bool} (e :
 pub suspect-is : (S : ℕ → Bool) (r : Rec) → r .kind ≡ 1 → S (r .label) ≡ isSuspect S r
 unfolding isSuspect
 suspect-is S r e = sym (rw (ambient-is r e))
-
--- a sheet that is refused, and one that is done
-module _ (s t d : List ℕ) where
-  pub sheet-refused : (r : Refusal) → showing s t d ≡ refuse (r .number) (r .record) → (refusal r ≡ sheetAnswer s t d) × (d ≡ sheetAfter s t d)
-  unfolding sheetAnswer sheetAfter
-  sheet-refused r e = (refuse-answer _ r e, content-kept _ _ e)
-
-  pub sheet-done : showing s t d ≡ pass → (d′ : List ℕ) → d′ ≡ sheetOf s t → (done tt ≡ sheetAnswer s t d) × (d′ ≡ sheetAfter s t d)
-  unfolding sheetAnswer sheetAfter
-  sheet-done e d′ q = (done-answer _ e refl, q ∙ content-new _ _ e)
-
-  pub sheet-invalid : {n i : ℕ} → validity s ≡ refuse n i → showing s t d ≡ refuse n i
-  unfolding showing
-  sheet-invalid e = then-refuse _ e
-
-  module _ (v : validity s ≡ pass) where
-    pub sheet-8 : tableRight t ≡ false → showing s t d ≡ refuse 8 0
-    unfolding showing
-    sheet-8 h = then-next _ v ∙ then-refuse _ (need-refuse 8 0 h)
-
-    pub sheet-14 : tableRight t ≡ true → length d ≢ length s → showing s t d ≡ refuse 14 0
-    unfolding showing
-    sheet-14 h n = then-next _ v ∙ then-next _ (need-make 8 0 h) ∙ need-refuse 14 0 (ne-eqb _ _ n)
-
-    pub sheet-pass : tableRight t ≡ true → length d ≡ length s → showing s t d ≡ pass
-    unfolding showing
-    sheet-pass h e = then-next _ v ∙ then-next _ (need-make 8 0 h) ∙ need-make 14 0 (eq-eqb _ _ e)

@@ -6,7 +6,6 @@ use model::Validated;
 ghost use mathlib.Core.Path.{_≡_};
 ghost use Prim.Native.Nat.{_<_, _≤_};
 ghost use lib.ListN.{length};
-ghost use Rattle.itinerary.specs.Known.{Near};
 ghost use Rattle.model.specs.Calls.{sheetAfter, sheetAnswer};
 ghost use Rattle.model.specs.Climbing.{hidden, isSuspect};
 ghost use Rattle.model.specs.Numbers.{performedAs};
@@ -16,8 +15,9 @@ ghost use Rattle.model.specs.Refusals.{pass};
 ghost use Rattle.model.specs.Tables.{suspects};
 ghost use Rattle.model.specs.Validity.{validity};
 ghost use Rattle.observer.specs.Marks.{Markable, Marked, markOf};
+ghost use Rattle.climbing.specs.Labels.{Near};
 
-// Whether a record is an ambient whose label is suspect; inner.
+// Whether a record is an ambient whose label is suspect.
 fn suspect(table: &[u8], r: Rec) -> bool
     requires { ⌜ (length (now table) ≡ 1544) × (r .kind ≡ 1 → r .label < 64) ⌝ }
     ensures { λ b. ⌜ b ≡ isSuspect (suspects (now (table .entry))) r ⌝ }
@@ -35,14 +35,14 @@ fn mark_of(suspect: bool, above: u8) -> u8
     if suspect { 2 } else { above }
 }
 
-// Whether record i is hidden; inner. The environment's mark is 1. The mark is looked up at the parent, and the climb
+// Whether record i is hidden. The environment's mark is 1. The mark is looked up at the parent, and the climb
 // marks the records it passed, so that no record is climbed from twice.
 fn hidden(it: &[u8], table: &[u8], marks: &mut [u8], i: u16, left: usize) -> bool
     requires { ⌜ (Markable (now it) (now table) (now marks)) × (Near (now it) left i) × (1 ≤ i) ⌝ }
     ensures { λ b. ⌜ (b ≡ hidden (records (now (it .entry))) (suspects (now (table .entry))) i)
         × (Marked (now (it .entry)) (now (table .entry)) (now (marks .exit))) ⌝ }
 {
-    let r = reading::record_at(it, i);
+    let r = records::record_at(it, i);
     let here = mark_of(suspect(table, r), marks[r.parent as usize]);
     if here != 0 {
         marks[i as usize] = here;
@@ -59,13 +59,13 @@ fn hidden(it: &[u8], table: &[u8], marks: &mut [u8], i: u16, left: usize) -> boo
     false
 }
 
-// As `hidden`; inner. Where the parent's mark decides no call is made: a call costs more than a record.
+// As `hidden`. Where the parent's mark decides no call is made: a call costs more than a record.
 fn settled(it: &[u8], table: &[u8], marks: &mut [u8], i: u16, left: usize) -> bool
     requires { ⌜ (Markable (now it) (now table) (now marks)) × (Near (now it) left i) × (1 ≤ i) ⌝ }
     ensures { λ b. ⌜ (b ≡ hidden (records (now (it .entry))) (suspects (now (table .entry))) i)
         × (Marked (now (it .entry)) (now (table .entry)) (now (marks .exit))) ⌝ }
 {
-    let r = reading::record_at(it, i);
+    let r = records::record_at(it, i);
     let here = mark_of(suspect(table, r), marks[r.parent as usize]);
     if here != 0 {
         marks[i as usize] = here;
@@ -74,30 +74,25 @@ fn settled(it: &[u8], table: &[u8], marks: &mut [u8], i: u16, left: usize) -> bo
     hidden(it, table, marks, i, left)
 }
 
-// Takes the hidden records off a sheet that is still the itinerary, with marks to climb by; inner.
+// Takes the hidden records off a sheet that is still the itinerary, with marks to climb by.
 fn hide(it: &[u8], table: &[u8], marks: &mut [u8], sheet: &mut [u8])
     requires { ⌜ (Markable (now it) (now table) (now marks)) × (now sheet ≡ now it) ⌝ }
     ensures { λ _. ⌜ (now (sheet .exit) ≡ sheetOf (now (it .entry)) (now (table .entry)))
         × (Marked (now (it .entry)) (now (table .entry)) (now (marks .exit))) ⌝ }
 {
-    let gone = Rec {
-        kind: 0,
-        label: 0,
-        name: 0,
-        parent: 0,
-    };
+    let gone = records::gone();
     let n = (it.len() / 8) as u16;
     let mut i: u16 = 0;
     while i < n {
         if settled(it, table, marks, i + 1, n as usize) {
-            reading::put_record(sheet, i + 1, gone);
+            records::put_record(sheet, i + 1, gone);
         }
         i += 1;
     }
 }
 
-// Writes the sheet; inner.
-fn fill(it: &[u8], table: &[u8], sheet: &mut [u8])
+// Writes the sheet.
+pub fn write_sheet(it: &[u8], table: &[u8], sheet: &mut [u8])
     requires { ⌜ (validity (now it) ≡ pass) × (length (now table) ≡ 1544) × (length (now sheet) ≡ length (now it)) ⌝ }
     ensures { λ _. ⌜ now (sheet .exit) ≡ sheetOf (now (it .entry)) (now (table .entry)) ⌝ }
 {
@@ -105,29 +100,4 @@ fn fill(it: &[u8], table: &[u8], sheet: &mut [u8])
     marks[0] = 1;
     bytes::copy(it, sheet);
     hide(it, table, &mut marks, sheet);
-}
-
-// The sheet after refusals 1 to 6, 8 and 14.
-pub fn sheet(it: &[u8], table: &[u8], sheet: &mut [u8]) -> Performed
-    ensures { λ r. ⌜ (performedAs r ≡ sheetAnswer (now (it .entry)) (now (table .entry)) (now (sheet .entry)))
-        × (now (sheet .exit) ≡ sheetAfter (now (it .entry)) (now (table .entry)) (now (sheet .entry))) ⌝ }
-{
-    let seen = itinerary::validate(it);
-    if let Validated::Refused(r) = seen {
-        return Performed::Refused(r);
-    }
-    if !tables::table_right(table) {
-        return Performed::Refused(Refusal {
-            number: 8,
-            record: 0,
-        });
-    }
-    if sheet.len() != it.len() {
-        return Performed::Refused(Refusal {
-            number: 14,
-            record: 0,
-        });
-    }
-    fill(it, table, sheet);
-    Performed::Done
 }

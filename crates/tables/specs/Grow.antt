@@ -5,7 +5,7 @@ use mathlib.Core.Logic.{⊎-elim}
 use mathlib.Core.Path.{_≡_, fun-ext, subst, sym}
 use native.Mathlib.Nat.{eq-or-lt-of-le, le-of-suc-le-suc}
 use native.Mathlib.Numerals.{add-one}
-use Rattle.model.specs.Laws.Checks.{bool-iff}
+use Rattle.model.specs.Laws.Booleans.{bool-iff}
 
 abbrev pub Set : Type 0
 Set = ℕ → Bool

@@ -1,5 +1,3 @@
--- Where a row lies; general laws on truth values, on tests by loops and on sets that grow.
-pub mod Place
-pub mod Bit
+-- General laws on tests by loops and on sets that grow.
 pub mod Loops
 pub mod Grow

@@ -12,11 +12,10 @@ use native.Mathlib.Decide.{decLt, ℕ-discrete}
 use native.Mathlib.Omega.{arith}
 use Rattle.model.specs.Finite.{every}
 use Rattle.model.specs.Laws.Bit.{high-bit, or-same, same-or}
-use Rattle.model.specs.Laws.Checks.{and-make}
+use Rattle.model.specs.Laws.Booleans.{and-make, is-false}
 use Rattle.model.specs.Laws.Finite.{every-make, every-use}
 use Rattle.model.specs.Laws.Sets.{Narrow}
 use Rattle.model.specs.Tables.{bitAt, bits, placeH, placeI, policyRight, tableRight, tableSized, testBit}
-use Rattle.tables.specs.Bit.{is-false}
 
 module _ (n : ℕ) (t f : ℕ → Bool) where
   pub all-pass : ((x : ℕ) → x < n → t x ≡ true → f x ≡ true) → true ≡ every n t f

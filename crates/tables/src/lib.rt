@@ -1,13 +1,15 @@
 // Reading a policy and a table: refusals 7 and 8, single bits, rows.
+use model::Checked;
 ghost use mathlib.Core.Path.{_≡_};
 ghost use mathlib.Core.Bool.{true, not};
 ghost use Prim.Native.Nat.{_+_, _*_, _/_, _<_};
 ghost use lib.ListN.{length};
 ghost use Rattle.model.specs.Finite.{every};
-ghost use Rattle.model.specs.Tables.{bits, policyRight, tableRight, rowOf};
-ghost use Rattle.tables.specs.Place.{rowStart};
+ghost use Rattle.model.specs.Numbers.{checkedAs};
+ghost use Rattle.model.specs.Refusals.{_▸_, need};
+ghost use Rattle.model.specs.Tables.{bits, policyRight, tableRight, tableSized};
 
-// Bit j of a table. (inner)
+// Bit j of a table.
 pub fn bit(table: &[u8], j: usize) -> bool
     requires { ⌜ j / 8 < length (now table) ⌝ }
     ensures { λ r. ⌜ r ≡ bits (now (table .entry)) j ⌝ }
@@ -35,7 +37,17 @@ pub fn policy_right(policy: &[u8]) -> bool
     true
 }
 
-// Whether the 64 bits from `first` on, `step` apart, are clear. (inner)
+// Refusal 7, looked for only where the checks before it pass.
+pub fn policy_gate(so_far: Checked, policy: &[u8]) -> Checked
+    ensures { λ r. ⌜ checkedAs r ≡ (checkedAs «so_far» ▸ need (policyRight (now (policy .entry))) 7 0) ⌝ }
+{
+    if let Checked::Refuse(_) = so_far {
+        return so_far;
+    }
+    gates::need(so_far, policy_right(policy), 7)
+}
+
+// Whether the 64 bits from `first` on, `step` apart, are clear.
 fn clear_bits(table: &[u8], first: usize, step: usize) -> bool
     requires { ⌜ length (now table) ≡ 1544 ⌝ }
     requires { ⌜ first + step * 63 < 12352 ⌝ }
@@ -65,24 +77,24 @@ pub fn table_right(table: &[u8]) -> bool
     clear_bits(table, 8192, 1)
 }
 
-// The row of a label as that very part of the lent table; the empty part for any other label or length.
-pub fn row<'a>(table: &'a [u8], label: u8) -> &'a [u8]
-    ensures { λ r. ⌜ now r ≡ rowOf (now (table .entry)) label ⌝ }
-    ensures { λ r. ⌜ r .ptr .0 ≡ table .entry .ptr .0 ⌝ }
-    ensures { λ r. ⌜ r .ptr .1 ≡ table .entry .ptr .1 + rowStart (now (table .entry)) label ⌝ }
+// Refusal 8, looked for only where the checks before it pass.
+pub fn table_gate(so_far: Checked, table: &[u8]) -> Checked
+    ensures { λ r. ⌜ checkedAs r ≡ (checkedAs «so_far» ▸ need (tableRight (now (table .entry))) 8 0) ⌝ }
 {
-    if table.len() != 1544 {
-        return &table[0..0];
+    if let Checked::Refuse(_) = so_far {
+        return so_far;
     }
-    if 63 < label {
-        return &table[0..0];
-    }
-    let at = 16 * (label as usize);
-    let end = at + 16;
-    &table[at..end]
+    gates::need(so_far, table_right(table), 8)
 }
 
-// Whether each bit of the row x is one in the row y: the bits that x has more, gathered. (inner)
+// Refusal 8 for a table to be made: its length alone.
+pub fn sized_gate(so_far: Checked, table: &[u8]) -> Checked
+    ensures { λ r. ⌜ checkedAs r ≡ (checkedAs «so_far» ▸ need (tableSized (now (table .entry))) 8 0) ⌝ }
+{
+    gates::need(so_far, table.len() == 1544, 8)
+}
+
+// Whether each bit of the row x is one in the row y: the bits that x has more, gathered.
 pub fn row_included(x: &[u8], y: &[u8]) -> bool
     requires { ⌜ length (now x) ≡ 16 ⌝ }
     requires { ⌜ length (now y) ≡ 16 ⌝ }

@@ -4,12 +4,16 @@ use crate::answer::Answer;
 use crate::calls;
 use crate::law::Law;
 
+/// What a file begins with: a word, and the version of the format.
+pub const HEADER: &[u8; 5] = b"case\x02";
+
 pub const END: u8 = 0;
-pub const ZERO_TABLE: u8 = 7;
-pub const FLIP_BITS: u8 = 8;
-pub const EXPECT_BYTES: u8 = 9;
-pub const EXPECT_ZERO: u8 = 10;
-pub const EXPECT_TABLE_BITS: u8 = 11;
+pub const SET: u8 = 3;
+pub const SET_ZEROS: u8 = 4;
+pub const TURN_BITS: u8 = 5;
+pub const EXPECT_BYTES: u8 = 6;
+pub const EXPECT_ZEROS: u8 = 7;
+pub const EXPECT_BITS: u8 = 8;
 
 /// The buffers, numbered as in the file.
 #[derive(Clone, Copy, Debug, PartialEq, Eq)]
@@ -61,15 +65,6 @@ impl Call {
 
     pub fn of_code(code: u8) -> Option<Call> {
         Call::ALL.into_iter().find(|&call| call as u8 == code)
-    }
-
-    /// How many values stand behind the call in the file.
-    pub fn values(self) -> usize {
-        if self == Call::Screen {
-            6
-        } else {
-            4
-        }
     }
 }
 

@@ -7,7 +7,7 @@ use crate::law::Law;
 use crate::table::{Table, TABLE_LENGTH};
 
 /// Equal bytes between two changed ones that are cheaper to repeat than to skip.
-const CHEAP_GAP: usize = 6;
+const CHEAP_GAP: usize = 10;
 
 pub struct Writer {
     out: Vec<u8>,
@@ -16,14 +16,20 @@ pub struct Writer {
 }
 
 fn put_number(out: &mut Vec<u8>, number: usize) {
-    out.extend((number as u16).to_le_bytes());
+    out.extend((number as u32).to_le_bytes());
 }
 
-fn put_numbers(out: &mut Vec<u8>, code: u8, numbers: &[usize]) {
-    out.push(code);
-    put_number(out, numbers.len());
-    for &number in numbers {
-        put_number(out, number);
+/// The head of a command on a buffer, which has a count.
+fn put_head(out: &mut Vec<u8>, code: u8, buffer: u8, count: usize) {
+    out.extend([code, buffer]);
+    put_number(out, count);
+}
+
+/// A command with the numbers of bits of the table.
+fn put_bits(out: &mut Vec<u8>, code: u8, bits: &[usize]) {
+    put_head(out, code, Buffer::Table as u8, bits.len());
+    for &bit in bits {
+        put_number(out, bit);
     }
 }
 
@@ -41,9 +47,8 @@ fn expect_parts(buffer: Buffer, before: &[u8], after: &[u8]) -> Vec<u8> {
         while let Some(next) = (end..after.len().min(end + CHEAP_GAP)).find(|&k| before[k] != after[k]) {
             end = next + 1;
         }
-        out.extend([EXPECT_BYTES, buffer as u8]);
+        put_head(&mut out, EXPECT_BYTES, buffer as u8, end - start);
         put_number(&mut out, start);
-        put_number(&mut out, end - start);
         out.extend(&after[start..end]);
         at = end;
     }
@@ -55,17 +60,18 @@ fn expect(buffer: Buffer, before: &[u8], after: &[u8]) -> Vec<u8> {
     if before == after {
         return Vec::new();
     }
-    let zero = vec![EXPECT_ZERO, buffer as u8];
+    let mut zero = Vec::new();
+    put_head(&mut zero, EXPECT_ZEROS, buffer as u8, after.len());
     let parts = expect_parts(buffer, before, after);
     let from_zero = [zero.clone(), expect_parts(buffer, &vec![0; after.len()], after)].concat();
     let mut ways = vec![parts, from_zero];
     if let (Buffer::Table, Some(old), Some(new)) = (buffer, Table::read(before), Table::read(after)) {
         let mut bits = zero;
-        put_numbers(&mut bits, EXPECT_TABLE_BITS, &new.bits());
+        put_bits(&mut bits, EXPECT_BITS, &new.bits());
         ways.push(bits);
         if old.bits().iter().all(|&bit| new.has(bit)) {
             let mut bits = Vec::new();
-            put_numbers(&mut bits, EXPECT_TABLE_BITS, &differing_bits(&old, &new));
+            put_bits(&mut bits, EXPECT_BITS, &differing_bits(&old, &new));
             ways.push(bits);
         }
     }
@@ -73,13 +79,9 @@ fn expect(buffer: Buffer, before: &[u8], after: &[u8]) -> Vec<u8> {
 }
 
 impl Writer {
-    /// A file begins by setting all six buffers to no bytes.
+    /// A file begins with its header, and all buffers with no bytes.
     pub fn new() -> Writer {
-        let mut out = Vec::new();
-        for buffer in Buffer::ALL {
-            out.extend([buffer as u8, 0, 0]);
-        }
-        Writer { out, now: Buffers::default(), counts: Counts::default() }
+        Writer { out: HEADER.to_vec(), now: Buffers::default(), counts: Counts::default() }
     }
 
     pub fn get(&self, buffer: Buffer) -> &[u8] {
@@ -91,10 +93,13 @@ impl Writer {
         if self.now.get(buffer) == content {
             return;
         }
-        let mut command = vec![buffer as u8];
-        put_number(&mut command, content.len());
+        let mut command = Vec::new();
+        put_head(&mut command, SET, buffer as u8, content.len());
         command.extend(content);
-        if buffer == Buffer::Table {
+        if content.iter().all(|&byte| byte == 0) {
+            command.clear();
+            put_head(&mut command, SET_ZEROS, buffer as u8, content.len());
+        } else if buffer == Buffer::Table {
             command = self.shortest_table(content, command);
         }
         self.out.extend(command);
@@ -103,17 +108,14 @@ impl Writer {
 
     /// The table by its bytes, or by bits turned in zeros or in the table as it is.
     fn shortest_table(&self, content: &[u8], whole: Vec<u8>) -> Vec<u8> {
-        let mut zero = vec![ZERO_TABLE];
-        put_number(&mut zero, content.len());
-        if content.iter().all(|&byte| byte == 0) {
-            return zero;
-        }
         let Some(table) = Table::read(content) else { return whole };
-        put_numbers(&mut zero, FLIP_BITS, &table.bits());
+        let mut zero = Vec::new();
+        put_head(&mut zero, SET_ZEROS, Buffer::Table as u8, content.len());
+        put_bits(&mut zero, TURN_BITS, &table.bits());
         let mut ways = vec![whole, zero];
         if let Some(now) = Table::read(self.now.get(Buffer::Table)) {
             let mut flips = Vec::new();
-            put_numbers(&mut flips, FLIP_BITS, &differing_bits(&now, &table));
+            put_bits(&mut flips, TURN_BITS, &differing_bits(&now, &table));
             ways.push(flips);
         }
         ways.into_iter().min_by_key(Vec::len).unwrap_or_default()
@@ -121,7 +123,7 @@ impl Writer {
 
     /// Turns one bit of a table of the right length.
     pub fn flip(&mut self, bit: usize) {
-        put_numbers(&mut self.out, FLIP_BITS, &[bit]);
+        put_bits(&mut self.out, TURN_BITS, &[bit]);
         self.now.get_mut(Buffer::Table)[bit / 8] ^= 1 << (bit % 8);
     }
 
@@ -132,13 +134,14 @@ impl Writer {
         for buffer in Buffer::ALL {
             self.out.extend(expect(buffer, self.now.get(buffer), after.get(buffer)));
         }
-        self.out.push(call as u8);
+        let used = answer.values.iter().rposition(|&value| value != 0).map_or(0, |last| last + 1);
+        self.out.extend([call as u8, used as u8]);
         self.out.extend(x.to_le_bytes());
         self.out.extend(y.to_le_bytes());
         self.out.push(answer.number);
         self.out.extend(answer.record.to_le_bytes());
-        for value in &answer.values[..call.values()] {
-            self.out.extend(value.to_le_bytes());
+        for &value in &answer.values[..used] {
+            put_number(&mut self.out, value.into());
         }
         self.counts.note(call, &answer, &after);
         self.now = after;
@@ -146,7 +149,7 @@ impl Writer {
     }
 
     pub fn finish(mut self) -> (Vec<u8>, Counts) {
-        self.out.push(END);
+        put_head(&mut self.out, END, 0, 0);
         (self.out, self.counts)
     }
 }

@@ -2,8 +2,8 @@
 use borrow.Author.Needs.{needs}
 use native.Mathlib.Omega.{arith}
 use Rattle.hublist.specs.Listed.{room-for}
-use Rattle.textform.specs.Laws.Room.{never, refused, wrote}
-use Rattle.textform.specs.Writing.{listAfter, listAnswer}
+use Rattle.text_form.specs.Laws.Room.{never, refused, wrote}
+use Rattle.text_form.specs.Writing.{listAfter, listAnswer}
 use Rattle.hublist.proofs.list.Statement.{statement}
 use Rattle.hublist.proofs.list.Tie as tie
 

@@ -2,8 +2,8 @@
 use borrow.Author.Needs.{needs}
 use native.Mathlib.Omega.{arith}
 use Rattle.model.specs.Listing.{refusedWord}
-use Rattle.textform.specs.Laws.Room.{never, refused, text-fits, text-short, wrote}
-use Rattle.textform.specs.Writing.{writeAfter, writeAnswer}
+use Rattle.text_form.specs.Laws.Room.{never, refused, text-fits, text-short, wrote}
+use Rattle.text_form.specs.Writing.{writeAfter, writeAnswer}
 use Rattle.hubshow.proofs.show_text.Statement.{statement}
 use Rattle.hubshow.proofs.show_text.Tie as tie
 

@@ -2,7 +2,7 @@
 use borrow.Author.Needs.{needs}
 use mathlib.Core.Path.{_∙_, sym}
 use native.Mathlib.Omega.{arith}
-use Rattle.textform.specs.Laws.Room.{read-fits}
+use Rattle.text_form.specs.Laws.Room.{read-fits}
 use Rattle.hubtext.proofs.convert.Statement.{statement}
 use Rattle.hubtext.proofs.convert.Tie as tie
 

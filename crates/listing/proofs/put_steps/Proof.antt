@@ -5,12 +5,12 @@ use lib.ListN.{length}
 use mathlib.Core.List.{[]}
 use mathlib.Core.Path.{_≡_, refl}
 use native.Mathlib.Omega.{arith}
-use Rattle.calculus.specs.Runs.{Script, script-of}
 use Rattle.listing.specs.Laws.{ahead, ahead-all, ahead-end, ahead-on, ahead-room}
 use Rattle.model.specs.Listing.{stepLines}
 use Rattle.model.specs.Scripts.{stepsIn}
 use Rattle.text_put.specs.Laws.{putting-end, putting-on}
 use Rattle.text_put.specs.Puts.{Putting}
+use Rattle.scripts.specs.Runs.{Script, script-of}
 use Rattle.listing.proofs.put_steps.Statement.{statement}
 use Rattle.listing.proofs.put_steps.Tie as tie
 

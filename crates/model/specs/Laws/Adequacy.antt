@@ -12,8 +12,8 @@ use mathlib.Core.Bool.{true}
 use mathlib.Core.Path.{_∙_, _≡_, ap, refl, sym}
 use native.Mathlib.Decide.{decLe, ℕ-discrete}
 use native.Mathlib.Omega.{arith}
-use Rattle.model.specs.Analysis.{free}
-use Rattle.model.specs.Calls.{metCheck, stepAfter, stepAnswer, stepping, validateAnswer}
+use Rattle.model.specs.Analysis.{permitAll}
+use Rattle.model.specs.Calls.{outcomeCheck, stepAfter, stepAnswer, stepping, validateAnswer}
 use Rattle.model.specs.Laws.Bytes.{valid-wf}
 use Rattle.model.specs.Laws.Checks.{answer-done, then-pass}
 use Rattle.model.specs.Laws.Done.{step-records}
@@ -25,11 +25,12 @@ use Rattle.model.specs.Scripts.{Step, afterList, answersOf}
 use Rattle.model.specs.Laws.Readings.{Downward, Front, Once, Whole, beneath, climbs, conform, focus, front-inner, one-le, one-other, one-self, read-alive, whole-downward}
 use Rattle.model.specs.Laws.Reductions.{means-whole, reduction-steps, step-reduces}
 use Rattle.model.specs.Laws.Updates.{at-root}
-use Rattle.model.specs.Laws.WellFormed.{Alive, WellFormed, alive-in, alive-pos, and-left, shape}
+use Rattle.model.specs.Laws.WellFormed.{Alive, WellFormed, alive-in, alive-pos, shape}
+use Rattle.model.specs.Laws.Booleans.{and-left}
 use Rattle.model.specs.Processes.{Chain, Congruent, Demand2Steps, Head, Means, Process, Reads, Says, _·_, _‖_, ambient, associates, both, cap, commutes, doneIn, end, inside, nothing, one, parallel, read, reflexive, says-ambient, says-cap, symmetric, times, transitive, unit}
 use Rattle.model.specs.Records.{Capability, at, cap-in, cap-open, cap-out, capability, count, isAmbient, parentOf, records}
 use Rattle.model.specs.Refusals.{andThen, answer, done, pass}
-use Rattle.model.specs.Steps.{Outcome, met, outcome, step, unmet}
+use Rattle.model.specs.Steps.{Outcome, done-by, outcome, step, refused-with}
 use Rattle.model.specs.Validity.{kindRight, validity}
 use Rattle.model.specs.declared.Rec.{Rec}
 
@@ -239,27 +240,27 @@ module _ {its : List Rec} (wf : WellFormed its) where
 pub means-alike : {its : List Rec} {P Q : Process} → Means its P → Congruent P Q → Means its Q
 means-alike m e = let w = conform e .0 0 (m .reading) in record { reading = w .reads; once = λ i l. w .counts i ∙ m .once i l }
 
-met-pass : (o : Outcome) → metCheck o ≡ pass → (k : Capability) × (o ≡ met k)
-unfolding metCheck
-met-pass (unmet n) e = let u : _≡_ {A = ℕ} 0 1 = cc in absurd (omega arith)
-met-pass (met k) e = (k, refl)
+outcome-pass : (o : Outcome) → outcomeCheck o ≡ pass → (k : Capability) × (o ≡ done-by k)
+unfolding outcomeCheck
+outcome-pass (refused-with n) e = let u : _≡_ {A = ℕ} 0 1 = cc in absurd (omega arith)
+outcome-pass (done-by k) e = (k, refl)
 
 -- the call on a valid itinerary
 module _ (s : List ℕ) (v : validity s ≡ pass) (c b : ℕ) where
-  call-met : stepAnswer s c b ≡ done tt → (k : Capability) × (outcome free (records s) c b ≡ met k)
+  call-done : stepAnswer s c b ≡ done tt → (k : Capability) × (outcome permitAll (records s) c b ≡ done-by k)
   unfolding stepAnswer stepping
-  call-met e = met-pass _ (then-pass _ _ (answer-done (stepping s c b) tt tt e) .1)
+  call-done e = outcome-pass _ (then-pass _ _ (answer-done (stepping s c b) tt tt e) .1)
 
-  met-call : (k : Capability) → outcome free (records s) c b ≡ met k → stepAnswer s c b ≡ done tt
-  unfolding stepAnswer stepping metCheck andThen answer
-  met-call k e = rw (v, e)
+  done-call : (k : Capability) → outcome permitAll (records s) c b ≡ done-by k → stepAnswer s c b ≡ done tt
+  unfolding stepAnswer stepping outcomeCheck andThen answer
+  done-call k e = rw (v, e)
 
-  call-records : records (stepAfter s c b) ≡ step free (records s) c b
-  call-records = ap records (step-after s v c b) ∙ step-records free s c b
+  call-records : records (stepAfter s c b) ≡ step permitAll (records s) c b
+  call-records = ap records (step-after s v c b) ∙ step-records permitAll s c b
 
 -- the chain of a list of events is that of its steps
-by-calls : (es : List Event) (s : List ℕ) → validity s ≡ pass → {P : Process} → Chained free P (answersOf free s (allSteps es)) (afterList free s (allSteps es)) →
-    (Q : Process) × Chain free (doneIn (given s es)) P Q × Means (records (after s es)) Q
+by-calls : (es : List Event) (s : List ℕ) → validity s ≡ pass → {P : Process} → Chained permitAll P (answersOf permitAll s (allSteps es)) (afterList permitAll s (allSteps es)) →
+    (Q : Process) × Chain permitAll (doneIn (given s es)) P Q × Means (records (after s es)) Q
 by-calls es s v w = (w .last, rw (given-steps es s v) (w .chain), rw (after-steps es s v) (w .means))
 
 -- steps, each an event of its own
@@ -272,11 +273,11 @@ unfolding allSteps stepsOf singly
 steps-singly [] = refl
 steps-singly (m ∷ ms) = ap (λ l. m ∷ l) (steps-singly ms)
 
-after-singly : (ms : List Step) (s : List ℕ) → validity s ≡ pass → after s (singly ms) ≡ afterList free s ms
-after-singly ms s v = after-steps (singly ms) s v ∙ ap (afterList free s) (steps-singly ms)
+after-singly : (ms : List Step) (s : List ℕ) → validity s ≡ pass → after s (singly ms) ≡ afterList permitAll s ms
+after-singly ms s v = after-steps (singly ms) s v ∙ ap (afterList permitAll s) (steps-singly ms)
 
-given-singly : (ms : List Step) (s : List ℕ) → validity s ≡ pass → given s (singly ms) ≡ answersOf free s ms
-given-singly ms s v = given-steps (singly ms) s v ∙ ap (answersOf free s) (steps-singly ms)
+given-singly : (ms : List Step) (s : List ℕ) → validity s ≡ pass → given s (singly ms) ≡ answersOf permitAll s ms
+given-singly ms s v = given-steps (singly ms) s v ∙ ap (answersOf permitAll s) (steps-singly ms)
 
 -- "Steps follow the published rules of Mobile Ambients."
 pub follows-rules : Demand2Steps
@@ -288,8 +289,8 @@ follows-rules s n a =
       process = means-some wf;
       unique = means-unique wf;
       closed = means-alike;
-      sound = λ m c b e. let k = call-met s v c b e in rw (call-records s v c b) (step-reduces wf m (k .0) c b (k .1));
-      complete = λ m x. let w = reduction-steps wf m x in (w .1, w .2, met-call s v (w .1) (w .2) (w .0) (w .3), rw (call-records s v (w .1) (w .2)) (w .4));
+      sound = λ m c b e. let k = call-done s v c b e in rw (call-records s v c b) (step-reduces wf m (k .0) c b (k .1));
+      complete = λ m x. let w = reduction-steps wf m x in (w .1, w .2, done-call s v (w .1) (w .2) (w .0) (w .3), rw (call-records s v (w .1) (w .2)) (w .4));
       chained = λ m es. by-calls es s v (chain-list (allSteps es) s v m);
       listed = λ m ms. let w = perform-chain ms s v m in (singly (w .steps), given-singly (w .steps) s v ∙ w .answers, rw (after-singly (w .steps) s v) (w .means));
     }

@@ -10,14 +10,14 @@ use native.Mathlib.Omega.{arith}
 use Rattle.model.specs.Analysis.{Permit}
 use Rattle.model.specs.Climbing.{climb, nearest, nesting}
 use Rattle.model.specs.Finite.{lowest}
-use Rattle.model.specs.Laws.Checks.{and-make}
+use Rattle.model.specs.Laws.Booleans.{and-left, and-make, and-right}
 use Rattle.model.specs.Laws.Containers.{nearest-amb, nearest-small, nearest-up}
 use Rattle.model.specs.Laws.Finite.{lowest-none}
 use Rattle.model.specs.Laws.Forest.{Depth, root, under}
 use Rattle.model.specs.Laws.Holding.{Holds}
 use Rattle.model.specs.Laws.Reach.{reached-inside, reached-next, reached-start}
 use Rattle.model.specs.Laws.Views.{view-top}
-use Rattle.model.specs.Laws.WellFormed.{WellFormed, amb-nested, and-left, and-right, small}
+use Rattle.model.specs.Laws.WellFormed.{WellFormed, amb-nested, small}
 use Rattle.model.specs.Records.{at, isAmbient, parentOf}
 use Rattle.model.specs.Tables.{Table, isBoundary, isHigh}
 use Rattle.model.specs.Verdicts.{inR, opening, verdictBy, verdictOf}

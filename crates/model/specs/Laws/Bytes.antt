@@ -12,15 +12,16 @@ use native.Mathlib.Decide.{decLe}
 use native.Mathlib.Nat.{suc-add, zero-add}
 use native.Mathlib.Omega.{arith}
 use Rattle.model.specs.Climbing.{reaches}
-use Rattle.model.specs.Laws.Checks.{and-make, each-make, each-pass, need-make, need-pass, then-make, then-pass}
+use Rattle.model.specs.Laws.Checks.{each-make, each-pass, need-make, need-pass, need-refuse, then-make, then-pass, then-refuse}
+use Rattle.model.specs.Laws.Booleans.{and-left, and-make, and-right}
 use Rattle.model.specs.Laws.Finite.{getD-tabulate, length-tabulate}
 use Rattle.model.specs.Laws.Forest.{Depth, depth-le, root, under-of}
 use Rattle.model.specs.Laws.Updates.{at-over, at-root}
 use Rattle.model.specs.Laws.Views.{depth-reaches, reaches-depth}
-use Rattle.model.specs.Laws.WellFormed.{Alive, WellFormed, alive-in, and-left, and-right, parent-in, shape, shape-labelled, shape-make, shape-named}
+use Rattle.model.specs.Laws.WellFormed.{Alive, WellFormed, alive-in, parent-in, shape, shape-labelled, shape-make, shape-named}
 use Rattle.model.specs.Records.{at, byte, byteOf, count, decode, encode, gone, nested, parentOf, records}
-use Rattle.model.specs.Refusals.{pass}
-use Rattle.model.specs.Validity.{blank, climbCheck, goneRight, kindRight, labelBy, labelRight, nameBy, nameRight, parentRight, recordCheck, sizeRight, spareRight, validity}
+use Rattle.model.specs.Refusals.{pass, refuse}
+use Rattle.model.specs.Validity.{blank, climbCheck, form, goneRight, kindRight, labelBy, labelRight, nameBy, nameRight, parentRight, recordCheck, sizeRight, spareRight, validity}
 use Rattle.model.specs.declared.Rec.{Rec}
 
 pub rec-path : (r r′ : Rec) → r .kind ≡ r′ .kind → r .label ≡ r′ .label → r .name ≡ r′ .name → r .parent ≡ r′ .parent → r ≡ r′
@@ -125,25 +126,26 @@ pub record Sound (s : List ℕ) (i : ℕ) : Type 0 where
 pub sound-record : (s : List ℕ) (i : ℕ) → recordCheck s i ≡ pass → Sound s i
 unfolding recordCheck
 sound-record s i h =
-    let a = then-pass _ _ h in
-    let b = then-pass _ _ (a .1) in
-    let c = then-pass _ _ (b .1) in
+    let c = then-pass _ _ h in
+    let b = then-pass _ _ (c .0) in
+    let a = then-pass _ _ (b .0) in
     let e = need-pass _ 2 i (a .0) in
     let f = and-right (kindRight (decode s i)) _ e in
     record {
       kinds = and-left _ _ e;
       spares = and-left _ _ f;
       gones = and-right (spareRight s i) _ f;
-      labels = need-pass _ 3 i (b .0);
-      names = need-pass _ 4 i (c .0);
+      labels = need-pass _ 3 i (a .1);
+      names = need-pass _ 4 i (b .1);
       parents = need-pass _ 5 i (c .1);
     }
 
 pub record-sound : (s : List ℕ) (i : ℕ) → Sound s i → recordCheck s i ≡ pass
 unfolding recordCheck
 record-sound s i w =
-    then-make (need-make 2 i (and-make (w .kinds) (and-make (w .spares) (w .gones))))
-    (then-make (need-make 3 i (w .labels)) (then-make (need-make 4 i (w .names)) (need-make 5 i (w .parents))))
+    then-make
+    (then-make (then-make (need-make 2 i (and-make (w .kinds) (and-make (w .spares) (w .gones)))) (need-make 3 i (w .labels))) (need-make 4 i (w .names)))
+    (need-make 5 i (w .parents))
 
 good-record : (s : List ℕ) (i : ℕ) → Sound s i → Good s (decode s i)
 good-record s i w = record { gones = gone-right _ (w .gones); shaped = shape-make _ (w .kinds) (w .labels) (w .names); par = w .parents }
@@ -158,23 +160,35 @@ pub record Passed (s : List ℕ) : Type 0 where
   pub each : (i : ℕ) → 1 ≤ i → i ≤ count s → Sound s i
   pub climbing : (i : ℕ) → 1 ≤ i → i ≤ count s → reaches (records s) i ≡ true
 
-pub passed : (s : List ℕ) → validity s ≡ pass → Passed s
-unfolding validity climbCheck
-passed s h =
-    let a = then-pass _ _ h in
-    let b = then-pass _ _ (a .1) in
+pub form-passed : (s : List ℕ) → form s ≡ pass → Passed s
+unfolding form climbCheck
+form-passed s h =
+    let b = then-pass _ _ h in
+    let a = then-pass _ _ (b .0) in
     record {
       size = need-pass _ 1 0 (a .0);
-      each = λ i l m. sound-record s i (each-pass _ 1 (count s) (b .0) i l (omega arith));
+      each = λ i l m. sound-record s i (each-pass _ 1 (count s) (a .1) i l (omega arith));
       climbing = λ i l m. need-pass _ 6 i (each-pass _ 1 (count s) (b .1) i l (omega arith));
     }
 
-pub pass-make : (s : List ℕ) → Passed s → validity s ≡ pass
-unfolding validity climbCheck
-pass-make s w =
-    then-make (need-make 1 0 (w .size))
-    (then-make (each-make _ 1 (count s) (λ j l m. record-sound s j (w .each j l (omega arith))))
-    (each-make _ 1 (count s) (λ j l m. need-make 6 j (w .climbing j l (omega arith)))))
+pub form-make : (s : List ℕ) → Passed s → form s ≡ pass
+unfolding form climbCheck
+form-make s w =
+    then-make
+    (then-make (need-make 1 0 (w .size)) (each-make _ 1 (count s) (λ j l m. record-sound s j (w .each j l (omega arith)))))
+    (each-make _ 1 (count s) (λ j l m. need-make 6 j (w .climbing j l (omega arith))))
+
+-- what is valid has its form, and there is nothing more to it
+pub valid-form : (s : List ℕ) → validity s ≡ pass → form s ≡ pass
+unfolding validity
+valid-form s h = h
+
+pub form-valid : (s : List ℕ) → form s ≡ pass → validity s ≡ pass
+unfolding validity
+form-valid s h = h
+
+pub valid-passed : (s : List ℕ) → validity s ≡ pass → Passed s
+valid-passed s h = form-passed s (valid-form s h)
 
 pub size-whole : (s : List ℕ) → sizeRight s ≡ true → length s % 8 ≡ 0
 unfolding sizeRight
@@ -217,7 +231,7 @@ module _ (s : List ℕ) (w : Passed s) where
 
 -- the records of a valid itinerary
 pub valid-wf : (s : List ℕ) → validity s ≡ pass → WellFormed (records s)
-valid-wf s h = passed-wf s (passed s h)
+valid-wf s h = passed-wf s (valid-passed s h)
 
 pub shape-kind : (r : Rec) → shape r ≡ true → kindRight r ≡ true
 unfolding shape
@@ -270,13 +284,16 @@ module _ {its : List Rec} (wf : WellFormed its) where
   unfolding reaches
   climb-right i h = depth-reaches its (length its) (wf .reach i .1) (depth-le (length its) (parent-in wf) h (wf .reach i .1))
 
-  pub wf-valid : length its ≤ 1024 → validity (encode its) ≡ pass
+  pub wf-form : length its ≤ 1024 → form (encode its) ≡ pass
   unfolding sizeRight
-  wf-valid h = pass-make (encode its) (record {
+  wf-form h = form-make (encode its) (record {
     size = and-make (eq-eqb (length (encode its) % 8) 0 (omega (arith, length-encode its))) (le-leb (length (encode its)) 8192 (omega (arith, length-encode its)));
     each = λ i l m. sound-at i l (omega (arith, count-encode its));
     climbing = λ i l m. rw (records-encode its) (climb-right i (omega (arith, count-encode its)));
   })
+
+  pub wf-valid : length its ≤ 1024 → validity (encode its) ≡ pass
+  wf-valid h = form-valid (encode its) (wf-form h)
 
 -- bytes that pass the validation are those of their records
 module _ (s : List ℕ) (small : (j : ℕ) → byte s j < 256) (w : Passed s) where
@@ -313,3 +330,18 @@ module _ (s : List ℕ) (small : (j : ℕ) → byte s j < 256) (w : Passed s) wh
           ∙ ap (λ r. byteIn r (j % 8)) (get-decode (j / 8) m)
           ∙ back (j / 8) (j % 8) m (omega arith)
           ∙ ap (byte s) e
+
+pub valid-whole : (s : List ℕ) → validity s ≡ pass → length s % 8 ≡ 0
+valid-whole s h = size-whole s (valid-passed s h .size)
+
+pub valid-few : (s : List ℕ) → validity s ≡ pass → length s ≤ 8192
+valid-few s h = size-le s (valid-passed s h .size)
+
+-- a length that is refused
+pub form-size : (s : List ℕ) → sizeRight s ≡ false → form s ≡ refuse 1 0
+unfolding form
+form-size s e = then-refuse _ (then-refuse _ (need-refuse 1 0 e))
+
+pub valid-size : (s : List ℕ) → sizeRight s ≡ false → validity s ≡ refuse 1 0
+unfolding validity
+valid-size s e = form-size s e

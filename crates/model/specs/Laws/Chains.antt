@@ -7,19 +7,19 @@ use lib.ListN.{replicate}
 use mathlib.Core.List.{List, [], _∷_}
 use mathlib.Core.Path.{_≡_, ap₂, refl}
 use native.Mathlib.Omega.{arith}
-use Rattle.model.specs.Analysis.{Permit, free}
+use Rattle.model.specs.Analysis.{Permit, permitAll}
 use Rattle.model.specs.Laws.Bytes.{valid-wf}
-use Rattle.model.specs.Laws.Done.{step-records, step-valid, unmet-number}
+use Rattle.model.specs.Laws.Done.{step-records, step-valid, refused-number}
 use Rattle.model.specs.Laws.Reductions.{reduction-steps, step-reduces}
 use Rattle.model.specs.Processes.{Chain, Means, Process, Reduces, alike, beside, doneIn, ended, enters, leaves, opens, reduced, within}
 use Rattle.model.specs.Records.{Capability, records}
 use Rattle.model.specs.Refusals.{pass}
 use Rattle.model.specs.Scripts.{Step, afterList, answersOf, outcomes}
-use Rattle.model.specs.Steps.{Outcome, answerOf, met, outcome, rewritten, stepBytes, unmet}
+use Rattle.model.specs.Steps.{Outcome, answerOf, done-by, outcome, rewritten, stepBytes, refused-with}
 use Rattle.model.specs.Validity.{validity}
 
 -- where all is permitted, the label of the ambient around a reduction plays no part
-pub reduces-anywhere : {w v : ℕ} {P Q : Process} → Reduces free w P Q → Reduces free v P Q
+pub reduces-anywhere : {w v : ℕ} {P Q : Process} → Reduces permitAll w P Q → Reduces permitAll v P Q
 reduces-anywhere (within e) = within e
 reduces-anywhere (beside e) = beside (reduces-anywhere e)
 reduces-anywhere (alike p e q) = alike p (reduces-anywhere e) q
@@ -38,9 +38,9 @@ module _ {permit : Permit} where
   chain-step : (o : Outcome) (s : List ℕ) (c b : ℕ) → validity s ≡ pass → outcome permit (records s) c b ≡ o → {P : Process} → Means (records s) P →
       (answers t : List ℕ) → ((Q : Process) → Means (records (stepBytes permit s c b)) Q → Chained permit Q answers t) → Chained permit P (answerOf o ∷ answers) t
   unfolding answerOf doneIn stepBytes rewritten
-  chain-step (unmet zero) s c b v e m answers t rest = absurd (omega (arith, unmet-number permit (records s) c b zero e .0))
-  chain-step (unmet (suc n)) s c b v e {P} m answers t rest = let w = rest P (rw e m) in record { last = w .last; chain = w .chain; means = w .means }
-  chain-step (met k) s c b v e m answers t rest =
+  chain-step (refused-with zero) s c b v e m answers t rest = absurd (omega (arith, refused-number permit (records s) c b zero e .0))
+  chain-step (refused-with (suc n)) s c b v e {P} m answers t rest = let w = rest P (rw e m) in record { last = w .last; chain = w .chain; means = w .means }
+  chain-step (done-by k) s c b v e m answers t rest =
       let r = step-reduces (valid-wf s v) m k c b e in
       let w = rest (r .0) (rw (step-records permit s c b) (r .2)) in
       record { last = w .last; chain = reduced (r .1) (w .chain); means = w .means }
@@ -60,7 +60,7 @@ pub record Performs (permit : Permit) (s : List ℕ) (n : ℕ) (Q : Process) : T
 
 module _ {permit : Permit} where
   -- one step more before the others
-  perform : (s : List ℕ) (c b : ℕ) (k : Capability) → outcome permit (records s) c b ≡ met k → {n : ℕ} {Q : Process} → Performs permit (stepBytes permit s c b) n Q → Performs permit s (suc n) Q
+  perform : (s : List ℕ) (c b : ℕ) (k : Capability) → outcome permit (records s) c b ≡ done-by k → {n : ℕ} {Q : Process} → Performs permit (stepBytes permit s c b) n Q → Performs permit s (suc n) Q
   unfolding answersOf outcomes afterList answerOf
   perform s c b k e w = record { steps = record { actor = c; partner = b } ∷ w .steps; answers = ap₂ (λ o rest. answerOf o ∷ rest) e (w .answers); means = w .means }
 

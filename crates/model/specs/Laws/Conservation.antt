@@ -19,7 +19,7 @@ use Rattle.model.specs.Laws.WellFormed.{Alive, WellFormed, alive-in, ali
 use Rattle.model.specs.Records.{Capability, at, cap-in, cap-open, cap-out, parentOf, records}
 use Rattle.model.specs.Refusals.{pass}
 use Rattle.model.specs.Scripts.{Step, afterList, doneBy, howMany, kindOf, notGone, outcomes}
-use Rattle.model.specs.Steps.{Outcome, dissolve, effect, met, move, outcome, place, step, stepBytes, unmet}
+use Rattle.model.specs.Steps.{Outcome, dissolve, effect, done-by, move, outcome, place, step, stepBytes, refused-with}
 use Rattle.model.specs.Validity.{validity}
 use Rattle.model.specs.declared.Rec.{Rec}
 
@@ -59,13 +59,13 @@ place-notGone {its} wf a t live =
 
 -- how many records a step that is done takes away
 unfoldable pub taken : Outcome → ℕ
-taken (unmet n) = 0
-taken (met cap-in) = 1
-taken (met cap-out) = 1
-taken (met cap-open) = 2
+taken (refused-with n) = 0
+taken (done-by cap-in) = 1
+taken (done-by cap-out) = 1
+taken (done-by cap-open) = 2
 
 module _ {permit : Permit} {its : List Rec} (wf : WellFormed its) {c b : ℕ} where
-  move-notGone : (k : Capability) → Done permit k its c b → taken (met k) + notGone (move k its c b) ≡ notGone its
+  move-notGone : (k : Capability) → Done permit k its c b → taken (done-by k) + notGone (move k its c b) ≡ notGone its
   unfolding taken move
   move-notGone cap-in d =
       let p = place-notGone wf (parentOf its c) b (in-live wf d) in
@@ -86,15 +86,15 @@ unfolding step effect taken
 step-notGone permit s v c b = ap (λ l. taken (outcome permit (records s) c b) + notGone l) (step-records permit s c b) ∙ go (outcome permit (records s) c b) refl
   where
     go : (o : Outcome) → outcome permit (records s) c b ≡ o → taken o + notGone (effect o (records s) c b) ≡ notGone (records s)
-    go (unmet n) e = omega arith
-    go (met k) e = move-notGone (valid-wf s v) k (outcome-done k e)
+    go (refused-with n) e = omega arith
+    go (done-by k) e = move-notGone (valid-wf s v) k (outcome-done k e)
 
 taken-kinds : (o : Outcome) → taken o ≡ doneBy 2 o + doneBy 3 o + 2 * doneBy 4 o
 unfolding taken doneBy kindOf
-taken-kinds (unmet n) = refl
-taken-kinds (met cap-in) = refl
-taken-kinds (met cap-out) = refl
-taken-kinds (met cap-open) = refl
+taken-kinds (refused-with n) = refl
+taken-kinds (done-by cap-in) = refl
+taken-kinds (done-by cap-out) = refl
+taken-kinds (done-by cap-open) = refl
 
 -- "Records not gone at the end equal those at the start, minus ins, minus outs, minus twice the opens."
 pub run-notGone : (permit : Permit) (ms : List Step) (s : List ℕ) → validity s ≡ pass →

@@ -11,7 +11,8 @@ use Rattle.model.specs.Laws.Done.{amb-alive}
 use Rattle.model.specs.Laws.Forest.{Depth, root, under}
 use Rattle.model.specs.Laws.Updates.{at-root}
 use Rattle.model.specs.Laws.Views.{view-on, view-top}
-use Rattle.model.specs.Laws.WellFormed.{SameBut, WellFormed, alive-pos, and-left, small}
+use Rattle.model.specs.Laws.WellFormed.{SameBut, WellFormed, alive-pos, small}
+use Rattle.model.specs.Laws.Booleans.{and-left}
 use Rattle.model.specs.Records.{at, isAmbient, parentOf}
 use Rattle.model.specs.declared.Rec.{Rec}
 

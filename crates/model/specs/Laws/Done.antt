@@ -10,14 +10,15 @@ use mathlib.Core.Option.{Option, none, some}
 use mathlib.Core.Path.{_∙_, _≡_, ap, refl, subst, sym}
 use native.Mathlib.Omega.{arith}
 use Rattle.model.specs.Analysis.{Permit}
-use Rattle.model.specs.Laws.Bytes.{length-records, passed, records-encode, size-le, valid-wf, wf-valid}
+use Rattle.model.specs.Laws.Bytes.{length-records, valid-passed, records-encode, size-le, valid-wf, wf-valid}
 use Rattle.model.specs.Laws.Forest.{Depth, above, under-of}
 use Rattle.model.specs.Laws.Updates.{dissolve-length, place-length}
-use Rattle.model.specs.Laws.WellFormed.{Alive, SameBut, WellFormed, alive-pos, and-left, and-right, dissolve-same, dissolve-wf, place-high, place-parent-other, place-same, place-wf}
+use Rattle.model.specs.Laws.WellFormed.{Alive, SameBut, WellFormed, alive-pos, dissolve-same, dissolve-wf, place-high, place-parent-other, place-same, place-wf}
+use Rattle.model.specs.Laws.Booleans.{and-left, and-right}
 use Rattle.model.specs.Records.{Capability, at, cap-in, cap-open, cap-out, capability, count, isAmbient, nested, parentOf, records}
 use Rattle.model.specs.Refusals.{pass}
 use Rattle.model.specs.Scripts.{Step, afterList, kindOf}
-use Rattle.model.specs.Steps.{Outcome, decide, dissolve, effect, fit, met, move, outcome, outcomeBy, place, ready, rewritten, stands, step, stepBytes, unmet}
+use Rattle.model.specs.Steps.{Outcome, decide, dissolve, effect, fit, done-by, move, outcome, outcomeBy, place, ready, rewritten, stands, step, stepBytes, refused-with}
 use Rattle.model.specs.Validity.{validity}
 use Rattle.model.specs.declared.Rec.{Rec}
 
@@ -52,17 +53,17 @@ done-of {permit} {k} {its} {c} {b} e r f =
       right = and-right (isAmbient (at its b) && eqb (at its b .name) (at its c .name) && stands k its (parentOf its c) b) _ f;
     }
 
--- a step that is met
-pub outcome-done : {permit : Permit} {its : List Rec} {c b : ℕ} (k : Capability) → outcome permit its c b ≡ met k → Done permit k its c b
+-- a step that is done
+pub outcome-done : {permit : Permit} {its : List Rec} {c b : ℕ} (k : Capability) → outcome permit its c b ≡ done-by k → Done permit k its c b
 unfolding outcome outcomeBy decide
 outcome-done {permit} {its} {c} {b} k = go (capability (at its c .kind)) refl
   where
-    tests : (j : Capability) → capability (at its c .kind) ≡ some j → (r f : Bool) → ready j its (parentOf its c) ≡ r → fit permit j its c b ≡ f → decide j r f ≡ met k → Done permit k its c b
+    tests : (j : Capability) → capability (at its c .kind) ≡ some j → (r f : Bool) → ready j its (parentOf its c) ≡ r → fit permit j its c b ≡ f → decide j r f ≡ done-by k → Done permit k its c b
     tests j e false f p q w = let u : _≡_ {A = ℕ} 0 1 = cc in absurd (omega arith)
     tests j e true false p q w = let u : _≡_ {A = ℕ} 0 1 = cc in absurd (omega arith)
     tests j e true true p q w = let u : j ≡ k = cc in subst (λ x. Done permit x its c b) u (done-of e p q)
 
-    go : (o : Option Capability) → capability (at its c .kind) ≡ o → outcomeBy permit o its c b ≡ met k → Done permit k its c b
+    go : (o : Option Capability) → capability (at its c .kind) ≡ o → outcomeBy permit o its c b ≡ done-by k → Done permit k its c b
     go none e w = let u : _≡_ {A = ℕ} 0 1 = cc in absurd (omega arith)
     go (some j) e w = tests j e (ready j its (parentOf its c)) (fit permit j its c b) refl refl w
 
@@ -70,20 +71,20 @@ outcome-done {permit} {its} {c} {b} k = go (capability (at its c .kind)) refl
 abbrev Refusing : ℕ → Type 0
 Refusing n = (10 ≤ n) × (n ≤ 12)
 
-decide-unmet : (k : Capability) (r f : Bool) (n : ℕ) → decide k r f ≡ unmet n → Refusing n
+decide-refused : (k : Capability) (r f : Bool) (n : ℕ) → decide k r f ≡ refused-with n → Refusing n
 unfolding decide
-decide-unmet k false f n e = let u : _≡_ {A = ℕ} 11 n = cc in (omega arith, omega arith)
-decide-unmet k true false n e = let u : _≡_ {A = ℕ} 12 n = cc in (omega arith, omega arith)
-decide-unmet k true true n e = let u : _≡_ {A = ℕ} 0 1 = cc in absurd (omega arith)
+decide-refused k false f n e = let u : _≡_ {A = ℕ} 11 n = cc in (omega arith, omega arith)
+decide-refused k true false n e = let u : _≡_ {A = ℕ} 12 n = cc in (omega arith, omega arith)
+decide-refused k true true n e = let u : _≡_ {A = ℕ} 0 1 = cc in absurd (omega arith)
 
-by-unmet : (permit : Permit) (o : Option Capability) (its : List Rec) (c b n : ℕ) → outcomeBy permit o its c b ≡ unmet n → Refusing n
+by-refused : (permit : Permit) (o : Option Capability) (its : List Rec) (c b n : ℕ) → outcomeBy permit o its c b ≡ refused-with n → Refusing n
 unfolding outcomeBy
-by-unmet permit none its c b n e = let u : _≡_ {A = ℕ} 10 n = cc in (omega arith, omega arith)
-by-unmet permit (some k) its c b n e = decide-unmet k _ _ n e
+by-refused permit none its c b n e = let u : _≡_ {A = ℕ} 10 n = cc in (omega arith, omega arith)
+by-refused permit (some k) its c b n e = decide-refused k _ _ n e
 
-pub unmet-number : (permit : Permit) (its : List Rec) (c b n : ℕ) → outcome permit its c b ≡ unmet n → (10 ≤ n) × (n ≤ 12)
+pub refused-number : (permit : Permit) (its : List Rec) (c b n : ℕ) → outcome permit its c b ≡ refused-with n → (10 ≤ n) × (n ≤ 12)
 unfolding outcome
-unmet-number permit its c b n e = by-unmet permit _ its c b n e
+refused-number permit its c b n e = by-refused permit _ its c b n e
 
 pub cap-alive : (its : List Rec) (c : ℕ) (k : Capability) → capability (at its c .kind) ≡ some k → Alive its c
 unfolding capability
@@ -244,8 +245,8 @@ unfolding stepBytes rewritten step effect
 step-records permit s c b = go (outcome permit (records s) c b)
   where
     go : (o : Outcome) → records (rewritten o s c b) ≡ effect o (records s) c b
-    go (unmet n) = refl
-    go (met k) = records-encode _
+    go (refused-with n) = refl
+    go (done-by k) = records-encode _
 
 -- a step keeps an itinerary valid
 pub step-valid : (permit : Permit) (s : List ℕ) (c b : ℕ) → validity s ≡ pass → validity (stepBytes permit s c b) ≡ pass
@@ -253,11 +254,11 @@ unfolding stepBytes rewritten count
 step-valid permit s c b v = go (outcome permit (records s) c b) refl
   where
     size : length (records s) ≤ 1024
-    size = omega (arith, length-records s, size-le s (passed s v .size))
+    size = omega (arith, length-records s, size-le s (valid-passed s v .size))
 
     go : (o : Outcome) → outcome permit (records s) c b ≡ o → validity (rewritten o s c b) ≡ pass
-    go (unmet n) e = v
-    go (met k) e = wf-valid (move-wf (valid-wf s v) k (outcome-done k e)) (omega (arith, move-length k (records s) c b, size))
+    go (refused-with n) e = v
+    go (done-by k) e = wf-valid (move-wf (valid-wf s v) k (outcome-done k e)) (omega (arith, move-length k (records s) c b, size))
 
 pub list-valid : (permit : Permit) (ms : List Step) (s : List ℕ) → validity s ≡ pass → validity (afterList permit s ms) ≡ pass
 unfolding afterList

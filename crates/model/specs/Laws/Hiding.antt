@@ -20,8 +20,8 @@ module _ (S : ℕ → Bool) where
   -- nothing is asked of what stands where
   hidings : Nesting (hiding S) _≡_ (λ x l. Unit {0})
   hidings = record {
-    order = record { same = λ x s. hides-same s S x; rr = λ a. refl; tr = λ p q. p ∙ q };
-    through = λ r x e. hides-other r S x (suspect-not-amb r S e);
+    order = record { same = λ i x s. hides-same s S x; rr = λ a. refl; tr = λ p q. p ∙ q };
+    through = λ i r x e. hides-other r S x (suspect-not-amb r S e);
     more = λ x y l m h u. u;
   }
 

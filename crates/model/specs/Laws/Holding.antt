@@ -9,10 +9,10 @@ use native.Mathlib.Omega.{arith}
 use Rattle.model.specs.Analysis.{Permit, holds, onlyIf, recordHolds, rowInside, ruleHolds, rulesHold}
 use Rattle.model.specs.Climbing.{container}
 use Rattle.model.specs.Finite.{every}
-use Rattle.model.specs.Laws.Checks.{and-make, onlyIf-make, onlyIf-use}
+use Rattle.model.specs.Laws.Booleans.{and-left, and-make, and-right, onlyIf-make, onlyIf-use}
 use Rattle.model.specs.Laws.Done.{cap-nested}
 use Rattle.model.specs.Laws.Finite.{every-make, every-use}
-use Rattle.model.specs.Laws.WellFormed.{alive-in, amb-nested, and-left, and-right, nested-alive}
+use Rattle.model.specs.Laws.WellFormed.{alive-in, amb-nested, nested-alive}
 use Rattle.model.specs.Records.{Capability, at, cap-in, cap-open, cap-out, capability, isAmbient, nested}
 use Rattle.model.specs.Tables.{Table, isHigh}
 use Rattle.model.specs.declared.Rec.{Rec}

@@ -11,7 +11,7 @@ use mathlib.Core.Path.{_∙_, _≡_, ap, refl, sym}
 use native.Mathlib.Omega.{arith}
 use Rattle.model.specs.Analysis.{Permit, holds}
 use Rattle.model.specs.Climbing.{container}
-use Rattle.model.specs.Laws.Checks.{and-make, bool-iff}
+use Rattle.model.specs.Laws.Booleans.{and-make, bool-iff}
 use Rattle.model.specs.Laws.Containers.{container-small}
 use Rattle.model.specs.Laws.Finite.{every-make}
 use Rattle.model.specs.Laws.Holding.{Holds, Infects, Inside, Rule, holds-complete, holds-sound}

@@ -9,9 +9,8 @@ use mathlib.Core.Path.{_∙_, _≡_, ap, refl, subst, sym}
 use native.Mathlib.Nat.{zero-add}
 use native.Mathlib.Omega.{arith}
 use Rattle.model.specs.Finite.{tabulate}
-use Rattle.model.specs.Laws.Checks.{beq-eq, or-cases, or-right}
+use Rattle.model.specs.Laws.Booleans.{and-left, and-right, beq-eq, or-cases, or-right}
 use Rattle.model.specs.Laws.Finite.{getD-tabulate, length-tabulate, someOf-make, someOf-use}
-use Rattle.model.specs.Laws.WellFormed.{and-left, and-right}
 use Rattle.model.specs.Verdicts.{alike, growing, grown, joins, marked, reached}
 
 -- how many are true

@@ -20,13 +20,14 @@ use Rattle.model.specs.Laws.Moves.{After, after-alike, after-beside, aft
 use Rattle.model.specs.Laws.Readings.{Once, Whole, ambient-said, beneath, child, conform, differ, focus, front-rest, front-whole, one-le, one-other, one-self, cap-said, read-alive, rest-once, says-alive}
 use Rattle.model.specs.Laws.Updates.{at-root}
 use Rattle.model.specs.Laws.Views.{view-on, view-top}
-use Rattle.model.specs.Laws.WellFormed.{Alive, WellFormed, alive-pos, and-right, place-same}
+use Rattle.model.specs.Laws.WellFormed.{Alive, WellFormed, alive-pos, place-same}
+use Rattle.model.specs.Laws.Booleans.{and-right}
 use Rattle.model.specs.Processes.{Congruent, Means, Process, Reads, Reduces, Says, _‖_, alike, ambient, associates, beside, both, enters, inside, leaves, one, opens, cap, parallel, read, reflexive, says-ambient, says-cap, symmetric, times, transitive, within}
 use Rattle.model.specs.Records.{Capability, at, cap-in, cap-open, cap-out, isAmbient, parentOf}
-use Rattle.model.specs.Steps.{decide, effect, fit, met, move, outcome, outcomeBy, ready, stands, step}
+use Rattle.model.specs.Steps.{decide, effect, fit, done-by, move, outcome, outcomeBy, ready, stands, step}
 use Rattle.model.specs.declared.Rec.{Rec}
 
--- a step that is met, and what it leaves
+-- a step that is done, and what it leaves
 record Found (permit : Permit) (its : List Rec) (q : ℕ) (N : ℕ → ℕ) (Q : Process) : Type 0 where
   k : Capability
   c : ℕ
@@ -70,7 +71,7 @@ module _ {permit : Permit} {its : List Rec} (wf : WellFormed its) where
     unfolding ready stands
     opens-done sc qa h u w = done-of cap-open sc u (eq-eqb _ _ (pb ∙ qa)) (rw h w)
 
-  -- every reduction is a step that is met
+  -- every reduction is a step that is done
   found : {w : ℕ} {P Q : Process} → Reduces permit w P Q → (q : ℕ) (r : Reads its q P) → Once q (times r) → at its q .label ≡ w → ambients its q ≡ true → Found permit its q (times r) Q
   unfolding move times
   found (enters w) q (both (read a pa sa (both (read c pc sc rP) rQ)) (read b pb sb rR)) o l u = record {
@@ -198,7 +199,7 @@ module _ {permit : Permit} {its : List Rec} {c b : ℕ} (wf : WellFormed its) wh
       (λ k. omega (arith, f .counts k, g .counts k)) (whole .once) (opens (d .right))
       (opens-after b c sb sc (f .inner) (g .inner) refl pb (λ k. omega (arith, whole .once k, f .counts k, g .counts k)))
 
-  -- a step that is met is a reduction
+  -- a step that is done is a reduction
   step-does : (k : Capability) → Done permit k its c b → {P : Process} (r : Reads its 0 P) → Whole its 0 (times r) → Does permit its (move k its c b) 0 (times r) P
   unfolding ready
   step-does cap-in d r whole =
@@ -219,8 +220,8 @@ module _ {permit : Permit} {its : List Rec} {c b : ℕ} (wf : WellFormed its) wh
       go cap-out d z l e = dissolve-before _ c i z l (place-same wf _ _ (out-live wf d) i .kind ∙ e)
       go cap-open d z l e = dissolve-before its b i (alive-pos its b (amb-alive its b (d .amb))) (dissolve-before _ c i z l) e
 
--- what a step that is met asks
-done-outcome : {permit : Permit} {its : List Rec} {k : Capability} {c b : ℕ} → Done permit k its c b → outcome permit its c b ≡ met k
+-- what a step that is done asks
+done-outcome : {permit : Permit} {its : List Rec} {k : Capability} {c b : ℕ} → Done permit k its c b → outcome permit its c b ≡ done-by k
 unfolding outcome outcomeBy decide fit
 done-outcome {permit} {its} {k} {c} {b} d =
     let f : fit permit k its c b ≡ true = rw (d .amb, eq-eqb _ _ (d .name), d .stand, d .right) in
@@ -238,14 +239,14 @@ module _ {its : List Rec} {P : Process} (m : Means its P) where
   after-means a f = record { reading = a .after; once = λ i l. a .keeps i l ∙ m .once i (f i l) }
 
 module _ {permit : Permit} {its : List Rec} (wf : WellFormed its) {P : Process} (m : Means its P) where
-  pub step-reduces : (k : Capability) (c b : ℕ) → outcome permit its c b ≡ met k → (Q : Process) × Reduces permit 0 P Q × Means (step permit its c b) Q
+  pub step-reduces : (k : Capability) (c b : ℕ) → outcome permit its c b ≡ done-by k → (Q : Process) × Reduces permit 0 P Q × Means (step permit its c b) Q
   unfolding step effect
   step-reduces k c b e =
       let d = outcome-done k e in
       let w = step-does wf k d (m .reading) (means-whole m) in
       (w .Q, subst (λ x. Reduces permit x P (w .Q)) (ap (λ r. r .label) (at-root its)) (w .reduces), rw (e, effect) (after-means m (w .left) (move-before wf k d)))
 
-  pub reduction-steps : {Q : Process} → Reduces permit 0 P Q → (k : Capability) × (c : ℕ) × (b : ℕ) × (outcome permit its c b ≡ met k) × Means (step permit its c b) Q
+  pub reduction-steps : {Q : Process} → Reduces permit 0 P Q → (k : Capability) × (c : ℕ) × (b : ℕ) × (outcome permit its c b ≡ done-by k) × Means (step permit its c b) Q
   unfolding step effect
   reduction-steps x =
       let w = found wf x 0 (m .reading) (means-whole m .once) (ap (λ r. r .label) (at-root its)) (view-top standing wf) in

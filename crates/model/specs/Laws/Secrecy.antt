@@ -8,19 +8,20 @@ use mathlib.Core.List.{List, [], _∷_}
 use mathlib.Core.Logic.{_≢_}
 use mathlib.Core.Path.{_∙_, _≡_, ap, refl, sym}
 use native.Mathlib.Omega.{arith}
-use Rattle.model.specs.Analysis.{Permit, free}
-use Rattle.model.specs.Calls.{checkAnswer, checking, sheetAfter, showing, verdictAnswer}
+use Rattle.model.specs.Analysis.{Permit, permitAll}
+use Rattle.model.specs.Calls.{checkAnswer, checking, comparing, entry, sheetAfter, showing, verdictAnswer}
 use Rattle.model.specs.Finite.{every}
 use Rattle.model.specs.Laws.Boundary.{Closed, environment-clear, sealed-closed, suspect-guarded}
 use Rattle.model.specs.Laws.Bytes.{records-encode, valid-wf}
-use Rattle.model.specs.Laws.Checks.{answer-done, answer-value, need-make, need-pass, then-make, then-pass}
+use Rattle.model.specs.Laws.Checks.{all-pass, answer-done, answer-value, passes}
 use Rattle.model.specs.Laws.Done.{list-valid, step-records, step-valid}
 use Rattle.model.specs.Laws.Holding.{Holds, holds-complete, holds-sound}
 use Rattle.model.specs.Laws.Lists.{after-steps, answer-at, given-steps, single-steps}
 use Rattle.model.specs.Laws.Sheet.{by-hidden, sheet-hidden}
 use Rattle.model.specs.Laws.Simulation.{same-outcome, sheet-step}
 use Rattle.model.specs.Laws.SubjectReduction.{step-holds}
-use Rattle.model.specs.Laws.WellFormed.{and-right, small}
+use Rattle.model.specs.Laws.WellFormed.{small}
+use Rattle.model.specs.Laws.Booleans.{and-right}
 use Rattle.model.specs.Noninterference.{Demand3, Event, EveryClient, HighGuarded, OnSheet, SuspectsGuarded, after, allSteps, before, given, stepAt}
 use Rattle.model.specs.Observer.{sheet, sheetOf}
 use Rattle.model.specs.Records.{at, byte, encode, records}
@@ -37,26 +38,24 @@ pub record Accepted (s policy table : List ℕ) : Type 0 where
   pub valid : validity s ≡ pass
   pub policy-right : policyRight policy ≡ true
   pub table-right : tableRight table ≡ true
-  pub holding : Holds free policy (records s) (parts (bits table))
+  pub holding : Holds permitAll policy (records s) (parts (bits table))
 
 pub accepted : (s policy table : List ℕ) → checkAnswer s policy table ≡ done tt → Accepted s policy table
-unfolding checkAnswer checking
+unfolding checkAnswer checking comparing entry
 accepted s policy table h =
-    let a = then-pass _ _ (answer-done (checking s policy table) tt tt h) in
-    let b = then-pass _ _ (a .1) in
-    let c = then-pass _ _ (b .1) in
+    let c = answer-done (checking s policy table) tt tt h in
     record {
-      valid = a .0;
-      policy-right = need-pass _ 7 0 (b .0);
-      table-right = need-pass _ 8 0 (c .0);
-      holding = holds-sound free policy (records s) _ (need-pass _ 9 0 (c .1));
+      valid = search passes;
+      policy-right = search passes;
+      table-right = search passes;
+      holding = holds-sound permitAll policy (records s) _ (search passes);
     }
 
 pub accept : (s policy table : List ℕ) → Accepted s policy table → checkAnswer s policy table ≡ done tt
-unfolding checkAnswer checking answer
+unfolding checkAnswer checking comparing entry answer
 accept s policy table w =
-    ap (λ c. answer c tt)
-    (then-make (w .valid) (then-make (need-make 7 0 (w .policy-right)) (then-make (need-make 8 0 (w .table-right)) (need-make 9 0 (holds-complete free policy (records s) _ (w .holding))))))
+    let c : checking s policy table ≡ pass = search (all-pass, holds-complete permitAll policy (records s) _ (w .holding)) depth 12 in
+    ap (λ c. answer c tt) c
 
 pub policy-low : (policy : List ℕ) → policyRight policy ≡ true → isBoundary policy 0 ≡ false
 unfolding policyRight isBoundary
@@ -117,7 +116,7 @@ module _ {permit : Permit} {policy : List ℕ} {T : Table} where
 
 -- subject reduction: an itinerary stays valid, and an accepted table accepted, after every list of events
 pub valid-after : (es : List Event) (s : List ℕ) → validity s ≡ pass → validity (after s es) ≡ pass
-valid-after es s v = rw (after-steps es s v) (list-valid free (allSteps es) s v)
+valid-after es s v = rw (after-steps es s v) (list-valid permitAll (allSteps es) s v)
 
 pub accepted-after : (es : List Event) (s policy table : List ℕ) → checkAnswer s policy table ≡ done tt → checkAnswer (after s es) policy table ≡ done tt
 accepted-after es s policy table h =
@@ -158,10 +157,10 @@ noninterference policy table x y size hx hy v same es = record {
     clear : T .S 0 ≡ false
     clear = environment-clear z
 
-    sx : Guarding free policy T x
+    sx : Guarding permitAll policy T x
     sx = record { valid = ax .valid; holding = ax .holding }
 
-    sy : Guarding free policy T y
+    sy : Guarding permitAll policy T y
     sy = record { valid = ay .valid; holding = ay .holding }
 
     guard : (s : List ℕ) → Accepted s policy table → SuspectsGuarded policy table (after s es)
@@ -173,7 +172,7 @@ noninterference policy table x y size hx hy v same es = record {
     same′ : sheet (records x) (T .S) ≡ sheet (records y) (T .S)
     same′ = sym (sheet-records x table) ∙ ap records same ∙ sheet-records y table
 
-    sheets-at : (ms : List Step) → sheetOf (afterList free x ms) table ≡ sheetOf (afterList free y ms) table
+    sheets-at : (ms : List Step) → sheetOf (afterList permitAll x ms) table ≡ sheetOf (afterList permitAll y ms) table
     sheets-at ms = ap encode (sheets-same clear x y sx sy same′ ms)
 
     sheets-after : (es : List Event) → sheetOf (after x es) table ≡ sheetOf (after y es) table
@@ -182,11 +181,11 @@ noninterference policy table x y size hx hy v same es = record {
     answers-after : (n : ℕ) → n < length (allSteps es) → OnSheet table (before x es n) (stepAt es n .actor) → getD (given x es) n 0 ≡ getD (given y es) n 0
     answers-after n l on =
         let ms = allSteps es in
-        ap (λ a. getD a n 0) (given-steps es x (ax .valid)) ∙ answer-at free x (allSteps es) n l _
+        ap (λ a. getD a n 0) (given-steps es x (ax .valid)) ∙ answer-at permitAll x (allSteps es) n l _
         ∙ ap answerOf (outcomes-same clear x y sx sy same′ (take n (allSteps es)) _ _ (λ k. on (shown k)))
-        ∙ sym (ap (λ a. getD a n 0) (given-steps es y (ay .valid)) ∙ answer-at free y (allSteps es) n l _)
+        ∙ sym (ap (λ a. getD a n 0) (given-steps es y (ay .valid)) ∙ answer-at permitAll y (allSteps es) n l _)
       where
-        shown : at (sheet (records (afterList free x (take n (allSteps es)))) (T .S)) (stepAt es n .actor) .kind ≡ 0 → at (records (sheetOf (before x es n) table)) (stepAt es n .actor) .kind ≡ 0
+        shown : at (sheet (records (afterList permitAll x (take n (allSteps es)))) (T .S)) (stepAt es n .actor) .kind ≡ 0 → at (records (sheetOf (before x es n) table)) (stepAt es n .actor) .kind ≡ 0
         shown k = ap (λ s. at (records (sheetOf s table)) (stepAt es n .actor) .kind) (single-steps (take n (allSteps es)) x (ax .valid)) ∙ ap (λ l. at l (stepAt es n .actor) .kind) (sheet-records _ table) ∙ k
 
 -- demand 3 is for every policy, so for that of each client
@@ -199,5 +198,5 @@ pub sheet-written : (s policy table buffer : List ℕ) → checkAnswer s policy 
 unfolding sheetAfter showing content
 sheet-written s policy table buffer h e =
     let a = accepted s policy table h in
-    let c : showing s table buffer ≡ pass = then-make (a .valid) (then-make (need-make 8 0 (a .table-right)) (need-make 14 0 (eq-eqb _ _ e))) in
+    let c : showing s table buffer ≡ pass = search (all-pass, eq-eqb _ _ e) depth 12 in
     rw (c, content)

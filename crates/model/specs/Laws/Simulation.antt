@@ -17,7 +17,7 @@ use Rattle.model.specs.Laws.Views.{fold-carry, view-laws}
 use Rattle.model.specs.Laws.WellFormed.{WellFormed, alive-pos}
 use Rattle.model.specs.Observer.{sheet}
 use Rattle.model.specs.Records.{Capability, at, cap-in, cap-open, cap-out, capability, gone, isAmbient, parentOf}
-use Rattle.model.specs.Steps.{Outcome, decide, dissolve, effect, fit, met, move, outcome, outcomeBy, place, ready, stands, step, unmet}
+use Rattle.model.specs.Steps.{Outcome, decide, dissolve, effect, fit, done-by, move, outcome, outcomeBy, place, ready, stands, step, refused-with}
 use Rattle.model.specs.Tables.{Table}
 use Rattle.model.specs.declared.Rec.{Rec}
 
@@ -130,7 +130,7 @@ module _ {permit : Permit} {policy : List ℕ} {T : Table} {its : List Rec} (wf 
       go none e = refl
       go (some k) e = rw (sheet-parent wf (T .S) c hc, same-ready wf (T .S) k (parentOf its c) hq) (at-ready k e (ready k its (parentOf its c)) refl)
 
-  pub outcome-gone : (l : List Rec) → at l c ≡ gone → outcome permit l c b ≡ unmet 10
+  pub outcome-gone : (l : List Rec) → at l c ≡ gone → outcome permit l c b ≡ refused-with 10
   unfolding outcome outcomeBy capability
   outcome-gone l e = rw e
 
@@ -143,12 +143,12 @@ module _ {permit : Permit} {policy : List ℕ} {T : Table} {its : List Rec} (wf 
       hid hc = rw (outcome-gone (sheet its (T .S)) (sheet-hidden its (T .S) c hc)) (go (outcome permit its c b) refl)
         where
           go : (o : Outcome) → outcome permit its c b ≡ o → sheet (effect o its c b) (T .S) ≡ sheet its (T .S)
-          go (unmet n) e = refl
-          go (met k) e = hidden-move wf holds clear c b hc k (outcome-done k e)
+          go (refused-with n) e = refl
+          go (done-by k) e = hidden-move wf holds clear c b hc k (outcome-done k e)
 
       shown : hidden its (T .S) c ≡ false → sheet (effect (outcome permit its c b) its c b) (T .S) ≡ effect (outcome permit (sheet its (T .S)) c b) (sheet its (T .S)) c b
       shown hc = rw (same-outcome hc) (go (outcome permit its c b) refl)
         where
           go : (o : Outcome) → outcome permit its c b ≡ o → sheet (effect o its c b) (T .S) ≡ effect o (sheet its (T .S)) c b
-          go (unmet n) e = refl
-          go (met k) e = sheet-move wf holds clear k (outcome-done k e) hc
+          go (refused-with n) e = refl
+          go (done-by k) e = sheet-move wf holds clear k (outcome-done k e) hc

@@ -13,7 +13,7 @@ use Rattle.model.specs.Laws.Holding.{Holds, Infects, RowInside, Rule, Su
 use Rattle.model.specs.Laws.Transport.{Gives, Mono, Nest, Nesting, move-each, move-moved}
 use Rattle.model.specs.Laws.WellFormed.{WellFormed, amb-nested, small}
 use Rattle.model.specs.Records.{Capability, at, cap-in, cap-open, cap-out, capability, isAmbient, parentOf}
-use Rattle.model.specs.Steps.{Outcome, effect, met, move, outcome, ready, step, unmet}
+use Rattle.model.specs.Steps.{Outcome, effect, done-by, move, outcome, ready, step, refused-with}
 use Rattle.model.specs.Tables.{Table}
 use Rattle.model.specs.declared.Rec.{Rec}
 
@@ -21,8 +21,8 @@ use Rattle.model.specs.declared.Rec.{Rec}
 module _ (I : ℕ → ℕ → Bool) where
   nestings : Nesting nesting (Sub I) (λ x l. I x l ≡ true)
   nestings = record {
-    order = record { same = λ x s. labelled-same s x; rr = λ a k m p. p; tr = λ p q k m t. q k m (p k m t) };
-    through = labelled-other;
+    order = record { same = λ i x s. labelled-same s x; rr = λ a k m p. p; tr = λ p q k m t. q k m (p k m t) };
+    through = λ i. labelled-other;
     more = λ x y l m h. h l m;
   }
 
@@ -88,5 +88,5 @@ unfolding step effect
 step-holds {permit} {policy} {its} {T} wf holds c b = go (outcome permit its c b) refl
   where
     go : (o : Outcome) → outcome permit its c b ≡ o → Holds permit policy (effect o its c b) T
-    go (unmet n) e = holds
-    go (met k) e = move-holds wf holds c b k (outcome-done k e)
+    go (refused-with n) e = holds
+    go (done-by k) e = move-holds wf holds c b k (outcome-done k e)

@@ -32,13 +32,13 @@ module _ {its : List Rec} (wf : WellFormed its) (P : ℕ → ℕ → ℕ → Typ
 
 -- how two values of a view are compared
 pub record Ordered {A : Type 0} (v : View A) (R : A → A → Type 0) : Type 0 where
-  pub same : {r r′ : Rec} (x : A) → SameBut r r′ → v .make r′ x ≡ v .make r x
+  pub same : (i : ℕ) {r r′ : Rec} (x : A) → SameBut r r′ → v .make i r′ x ≡ v .make i r x
   pub rr : (x : A) → R x x
   pub tr : {x y w : A} → R x y → R y w → R x w
 
 -- here a record makes more from more
 abbrev pub Mono : {A : Type 0} → View A → (A → A → Type 0) → List Rec → Type 0
-Mono {A} v R its = (i : ℕ) (y : A) → R (view v its (parentOf its i)) y → R (v .make (at its i) (view v its (parentOf its i))) (v .make (at its i) y)
+Mono {A} v R its = (i : ℕ) (y : A) → R (view v its (parentOf its i)) y → R (v .make i (at its i) (view v its (parentOf its i))) (v .make i (at its i) y)
 
 module _ {A : Type 0} {v : View A} {R : A → A → Type 0} (o : Ordered v R) {its : List Rec} (wf : WellFormed its) (mono : Mono v R its) where
   -- x is taken out
@@ -52,7 +52,7 @@ module _ {A : Type 0} {v : View A} {R : A → A → Type 0} (o : Ordered v R) {i
 
     pub out-view : (i : ℕ) → i ≢ x → R (view v its i) (view v (dissolve x its) i)
     out-view i h = fold-carry R (o .rr _) (view-laws v wf) (view-laws v (dissolve-wf wf x xz)) (λ j. j ≢ x) (λ j n _. dissolve-closed wf x xz j n)
-        (λ j n _ ih. rw (o .same _ (dissolve-same wf x xz j n)) (mono j _ (o .tr (local j n) ih))) h (dissolve-wf wf x xz .reach i .1)
+        (λ j n _ ih. rw (o .same _ _ (dissolve-same wf x xz j n)) (mono j _ (o .tr (local j n) ih))) h (dissolve-wf wf x xz .reach i .1)
 
     -- what the places above the records become
     pub out-over : (i : ℕ) → i ≢ x → R (view v its (parentOf its i)) (view v (dissolve x its) (parentOf (dissolve x its) i))
@@ -64,7 +64,7 @@ module _ {A : Type 0} {v : View A} {R : A → A → Type 0} (o : Ordered v R) {i
     pub put-still : view v its t ≡ view v (place a t its) t
     put-still = fold-carry _≡_ refl (view-laws v wf) (view-laws v wf′) Low
         (λ j w n. let u = above (w .2) n in (u .0, omega (arith, u .1, w .1), u .2))
-        (λ j w _ ih. ap (λ q. v .make (at its j) (view v its q)) (sym (place-parent-other wf a t live j (other j w))) ∙ ap (v .make (at its j)) ih ∙ sym (o .same _ (place-same wf a t live j))) (wf′ .reach t .0, omega arith, wf′ .reach t .1) (wf′ .reach t .1)
+        (λ j w _ ih. ap (λ q. v .make j (at its j) (view v its q)) (sym (place-parent-other wf a t live j (other j w))) ∙ ap (v .make j (at its j)) ih ∙ sym (o .same _ _ (place-same wf a t live j))) (wf′ .reach t .0, omega arith, wf′ .reach t .1) (wf′ .reach t .1)
       where
         Low : ℕ → Type 0
         Low j = (d : ℕ) × (d ≤ wf′ .reach t .0) × Depth (parentOf (place a t its)) j d
@@ -72,13 +72,13 @@ module _ {A : Type 0} {v : View A} {R : A → A → Type 0} (o : Ordered v R) {i
         other : (j : ℕ) → Low j → j ≢ a
         other j w e = omega (arith, w .1, depth-unique (rw e at (w .2)) (under-of (alive-pos its a live) (place-parent wf a t live) (wf′ .reach t .1)))
 
-    module _ (along : R (v .make (at its a) (view v its (parentOf its a))) (v .make (at its a) (view v its t))) where
+    module _ (along : R (v .make a (at its a) (view v its (parentOf its a))) (v .make a (at its a) (view v its t))) where
       pub put-view : (i : ℕ) → R (view v its i) (view v (place a t its) i)
       put-view i = fold-carry R (o .rr _) (view-laws v wf) (view-laws v wf′) (λ j. Unit {0}) (λ j _ _. tt)
-          (λ j _ _ ih. rw (o .same _ (place-same wf a t live j)) (go j (ℕ-discrete j a) ih)) tt (wf′ .reach i .1)
+          (λ j _ _ ih. rw (o .same _ _ (place-same wf a t live j)) (go j (ℕ-discrete j a) ih)) tt (wf′ .reach i .1)
         where
           go : (j : ℕ) → Dec (j ≡ a) → R (view v its (parentOf (place a t its) j)) (view v (place a t its) (parentOf (place a t its) j)) →
-              R (v .make (at its j) (view v its (parentOf its j))) (v .make (at its j) (view v (place a t its) (parentOf (place a t its) j)))
+              R (v .make j (at its j) (view v its (parentOf its j))) (v .make j (at its j) (view v (place a t its) (parentOf (place a t its) j)))
           go j (yes e) ih = rw (e, place-parent wf a t live, ← put-still) along
           go j (no e) ih = rw (place-parent-other wf a t live j e) (mono j _ (rw (place-parent-other wf a t live j e) at ih))
 
@@ -100,7 +100,7 @@ module _ {A : Type 0} {v : View A} {R : A → A → Type 0} (o : Ordered v R) (I
       go (no e) = let s = dissolve-same wf x z i e in rw (s .label) (more _ _ _ (labels wf i) (out-over o wf mono x z cross i e) (nest i (sym (same-nested s) ∙ live)))
 
   pub put-nest : (a t : ℕ) → Alive its a → WellFormed (place a t its) → In (view v its t) (at its a .label) →
-      R (v .make (at its a) (view v its (parentOf its a))) (v .make (at its a) (view v its t)) → Nest v In (place a t its)
+      R (v .make a (at its a) (view v its (parentOf its a))) (v .make a (at its a) (view v its t)) → Nest v In (place a t its)
   put-nest a t live wf′ fits along i alive = go (ℕ-discrete i a)
     where
       go : Dec (i ≡ a) → In (view v (place a t its) (parentOf (place a t its) i)) (at (place a t its) i .label)
@@ -121,15 +121,15 @@ module _ {permit : Permit} {its : List Rec} (wf : WellFormed its) {c b : ℕ} wh
 -- a table over a view
 pub record Nesting {A : Type 0} (v : View A) (R : A → A → Type 0) (In : A → ℕ → Type 0) : Type 0 where
   pub order : Ordered v R
-  pub through : (r : Rec) (x : A) → isAmbient r ≡ false → v .make r x ≡ x
+  pub through : (i : ℕ) (r : Rec) (x : A) → isAmbient r ≡ false → v .make i r x ≡ x
   pub more : (x y : A) (l : ℕ) → l < 128 → R x y → In x l → In y l
 
 -- what the rules have to give for a step
 abbrev pub Gives : {A : Type 0} → View A → (A → A → Type 0) → (A → ℕ → Type 0) → Capability → List Rec → ℕ → ℕ → Type 0
 Gives v R In cap-in its c b = let q = parentOf its c in
-    In (view v its b) (at its q .label) × R (v .make (at its q) (view v its (parentOf its q))) (v .make (at its q) (view v its b))
+    In (view v its b) (at its q .label) × R (v .make q (at its q) (view v its (parentOf its q))) (v .make q (at its q) (view v its b))
 Gives v R In cap-out its c b = let q = parentOf its c in
-    In (view v its (parentOf its b)) (at its q .label) × R (v .make (at its q) (view v its (parentOf its q))) (v .make (at its q) (view v its (parentOf its b)))
+    In (view v its (parentOf its b)) (at its q .label) × R (v .make q (at its q) (view v its (parentOf its q))) (v .make q (at its q) (view v its (parentOf its b)))
 Gives v R In cap-open its c b = R (view v its b) (view v its (parentOf its b))
 
 pub record Moved {A : Type 0} (v : View A) (R : A → A → Type 0) (In : A → ℕ → Type 0) (its its₁ : List Rec) (X : ℕ → Type 0) : Type 0 where
@@ -179,4 +179,4 @@ module _ {A : Type 0} {v : View A} {R : A → A → Type 0} {In : A → ℕ → 
       z = cap-pos wf k d
 
       cross : R (view v (halfway k its c b) c) (view v (halfway k its c b) (parentOf (halfway k its c b) c))
-      cross = rw (view-on v wf₁ c z, n .through _ (view v (halfway k its c b) (parentOf (halfway k its c b) c)) (first-cap wf k d)) (n .order .rr _)
+      cross = rw (view-on v wf₁ c z, n .through _ _ (view v (halfway k its c b) (parentOf (halfway k its c b) c)) (first-cap wf k d)) (n .order .rr _)

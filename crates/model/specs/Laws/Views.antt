@@ -28,7 +28,7 @@ module _ {A : Type 0} (v : View A) (its : List Rec) where
   from-lost zero h = absurd (h refl)
   from-lost (suc i) h = refl
 
-  pub from-on : (k i : ℕ) → i ≢ 0 → viewFrom v its (suc k) i ≡ v .make (at its i) (viewFrom v its k (parentOf its i))
+  pub from-on : (k i : ℕ) → i ≢ 0 → viewFrom v its (suc k) i ≡ v .make i (at its i) (viewFrom v its k (parentOf its i))
   unfolding viewFrom
   from-on k zero h = absurd (h refl)
   from-on k (suc i) h = refl
@@ -37,10 +37,10 @@ module _ {A : Type 0} (v : View A) (its : List Rec) where
   pub from-more : {i d : ℕ} (k : ℕ) → Depth (parentOf its) i d → d ≤ k → viewFrom v its (suc k) i ≡ viewFrom v its k i
   from-more k root l = from-top (suc k) ∙ sym (from-top k)
   from-more zero (under h r) l = absurd (omega arith)
-  from-more (suc k) (under {i = i} h r) l = from-on (suc k) i h ∙ ap (v .make (at its i)) (from-more k r (omega arith)) ∙ sym (from-on k i h)
+  from-more (suc k) (under {i = i} h r) l = from-on (suc k) i h ∙ ap (v .make i (at its i)) (from-more k r (omega arith)) ∙ sym (from-on k i h)
 
-  from-laws : (n : ℕ) → ((i : ℕ) → (d : ℕ) × (d ≤ suc n) × Depth (parentOf its) i d) → Folds (λ j. v .make (at its j)) (v .top) (parentOf its) (viewFrom v its (suc n))
-  from-laws n all = record { at-top = from-top (suc n); on = λ i h. from-on n i h ∙ ap (v .make (at its i)) (sym (next i h)) }
+  from-laws : (n : ℕ) → ((i : ℕ) → (d : ℕ) × (d ≤ suc n) × Depth (parentOf its) i d) → Folds (λ j. v .make j (at its j)) (v .top) (parentOf its) (viewFrom v its (suc n))
+  from-laws n all = record { at-top = from-top (suc n); on = λ i h. from-on n i h ∙ ap (v .make i (at its i)) (sym (next i h)) }
     where
       next : (i : ℕ) → i ≢ 0 → viewFrom v its (suc n) (parentOf its i) ≡ viewFrom v its n (parentOf its i)
       next i h =
@@ -49,14 +49,14 @@ module _ {A : Type 0} (v : View A) (its : List Rec) where
           from-more n (w .2) (omega (arith, u .1, w .1))
 
 module _ {A : Type 0} (v : View A) {its : List Rec} (wf : WellFormed its) where
-  pub view-laws : Folds (λ j. v .make (at its j)) (v .top) (parentOf its) (view v its)
+  pub view-laws : Folds (λ j. v .make j (at its j)) (v .top) (parentOf its) (view v its)
   unfolding view
   view-laws = from-laws v its (length its) (depths wf)
 
   pub view-top : view v its 0 ≡ v .top
   view-top = view-laws .at-top
 
-  pub view-on : (i : ℕ) → i ≢ 0 → view v its i ≡ v .make (at its i) (view v its (parentOf its i))
+  pub view-on : (i : ℕ) → i ≢ 0 → view v its i ≡ v .make i (at its i) (view v its (parentOf its i))
   view-on = view-laws .on
 
 -- climbing reaches the environment exactly from where there is a depth

@@ -6,9 +6,10 @@ use lib.ListN.{length}
 use mathlib.Core.Bool.{Bool, _&&_, false, true, true≢false}
 use mathlib.Core.List.{List}
 use mathlib.Core.Logic.{_≢_}
-use mathlib.Core.Path.{_∙_, _≡_, ap, refl, sym}
+use mathlib.Core.Path.{_∙_, _≡_, ap, sym}
 use native.Mathlib.Decide.{decLe, ℕ-discrete}
 use native.Mathlib.Omega.{arith}
+use Rattle.model.specs.Laws.Booleans.{and-left, and-right}
 use Rattle.model.specs.Laws.Forest.{Depth, Follows, depth-along, depth-le, follows, not-own-parent, past, reparent-depth, reparent-high, root, under-of}
 use Rattle.model.specs.Laws.Updates.{at-over, at-root, dissolve-moved, dissolve-self, dissolve-stays, place-other, place-self}
 use Rattle.model.specs.Records.{at, gone, isAmbient, nested, parentOf}
@@ -25,14 +26,6 @@ pub record WellFormed (its : List Rec) : Type 0 where
   pub gones : (i : ℕ) → at its i .kind ≡ 0 → at its i ≡ gone
   pub shaped : (i : ℕ) → shape (at its i) ≡ true
   pub reach : (i : ℕ) → (d : ℕ) × Depth (parentOf its) i d
-
-pub and-left : (a b : Bool) → (a && b) ≡ true → a ≡ true
-and-left true b h = refl
-and-left false b h = h
-
-pub and-right : (a b : Bool) → (a && b) ≡ true → b ≡ true
-and-right true b h = h
-and-right false b h = absurd (true≢false (sym h))
 
 pub label-small : (t : Bool) (l : ℕ) → labelIn t l ≡ true → t ≡ true → l < 64
 unfolding labelIn

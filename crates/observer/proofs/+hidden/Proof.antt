@@ -6,12 +6,12 @@ use borrow.Fn.PlainCycle.{Measures, and, falls, is}
 use lib.ListN.{length-set}
 use mathlib.Core.Path.{_∙_, sym}
 use native.Mathlib.Omega.{arith}
-use Rattle.itinerary.specs.Nearest.{label-small, near-above, near-left, parent-near}
 use Rattle.observer.specs.Laws.{hidden-above, mark-decided, mark-more, mark-open, positive}
 use Rattle.observer.proofs.hidden.Reads as hidden
 use Rattle.observer.proofs.hidden.Kinds as hidden-kinds
 use Rattle.observer.proofs.+hidden.Lts-hidden as hidden-lts
-use Rattle.reading.proofs.record_at.Reads as record-at-reads
+use Rattle.records.proofs.record_at.Reads as record-at-reads
+use Rattle.climbing.specs.Nearest.{label-small, near-above, near-left, parent-near}
 use Rattle.observer.proofs.mark_of.Reads as mark-of-reads
 use Rattle.observer.proofs.suspect.Reads as suspect-reads
 use Rattle.observer.proofs.+hidden.{statement}

@@ -1,10 +1,10 @@
 -- `observer::suspect` meets its contract.
 use mathlib.Core.Path.{_∙_, sym}
 use native.Mathlib.Omega.{arith}
-use Rattle.itinerary.specs.Laws.{ambient-not}
 use Rattle.model.specs.Laws.Containers.{suspect-not-amb}
 use Rattle.model.specs.Tables.{placeS}
 use Rattle.observer.specs.Laws.{suspect-is}
+use Rattle.records.specs.Climbs.{ambient-not}
 use Rattle.observer.proofs.suspect.Statement.{statement}
 use Rattle.observer.proofs.suspect.Tie as tie
 

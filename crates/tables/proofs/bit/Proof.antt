@@ -1,4 +1,4 @@
--- `tables::bit` meets its contract.
+-- `tables::bit` meets its contract: the definition's own words.
 use borrow.Author.Needs.{needs}
 use Rattle.model.specs.Tables.{bitAt, testBit}
 use Rattle.tables.proofs.bit.Statement.{statement}

@@ -1,4 +1,5 @@
--- `tables::clear_bits` meets its contract.
+-- `tables::clear_bits` meets its contract. The loop's invariant: the bits passed are clear; the bits to come fall. The first
+-- bit that is one decides.
 use Prim.Native.Nat.{_*_, _+_, _-_, _<_, _≤_, ℕ}
 use borrow.Author.Count.{below-more}
 use mathlib.Core.Bool.{false, not}

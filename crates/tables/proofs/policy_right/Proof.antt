@@ -1,4 +1,4 @@
--- `tables::policy_right` meets its contract.
+-- `tables::policy_right` meets its contract. The loop's invariant: the bytes passed are at most 2; the bytes to come fall.
 use Prim.Native.Nat.{_-_, _<_, _≤_, ℕ}
 use borrow.Author.Count.{below-more}
 use lib.ListN.{getD}

@@ -1,4 +1,5 @@
--- `tables::row_included` meets its contract.
+-- `tables::row_included` meets its contract. The loop's invariant: `extra` is 0 just where x has no bit more than y in the
+-- bytes passed; the bytes to come fall.
 use Prim.Native.Nat.{_-_, _<_, _≤_}
 use Rattle.model.specs.Laws.Sets.{Narrow}
 use Rattle.tables.specs.Loops.{Extra, extra-end, extra-next, extra-none}

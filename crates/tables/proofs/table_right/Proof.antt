@@ -1,4 +1,4 @@
--- `tables::table_right` meets its contract.
+-- `tables::table_right` meets its contract: the length, then column 0 of I, then row 0 of H.
 use borrow.Author.Needs.{needs}
 use borrow.Author.Tests.{not-false, not-true}
 use mathlib.Core.Path.{_∙_, sym}

@@ -1,2 +1,0 @@
--- The checks of each call in order.
-pub mod Laws

@@ -1,4 +1,0 @@
--- What the inner contracts cite, and laws that the proofs cite.
-pub mod Moves
-pub mod Laws
-pub mod Runs

@@ -1,0 +1,127 @@
+-- What each call returns and leaves, by what its checks found: one law for each where they refuse, and one where they pass.
+use Prim.Native.Nat.{_%_, _≤_, ℕ}
+use lib.ListN.{length}
+use mathlib.Core.List.{List}
+use mathlib.Core.Path.{_∙_, _≡_, ap, refl, sym}
+use Rattle.model.specs.Analysis.{permitAll}
+use Rattle.model.specs.Calls.{checking, containerAnswer, makeAfter, makeAnswer, making, outcomeCheck, runAfter, runAnswer, runAnswers, running, screenAfter, screenAnswer, screenAnswers, screening, sheetAfter, sheetAnswer, showing, stepAfter, stepAnswer, stepping, validateAnswer, verdictAnswer}
+use Rattle.model.specs.Climbing.{container}
+use Rattle.model.specs.Laws.Bytes.{valid-few, valid-whole}
+use Rattle.model.specs.Laws.Checks.{answer-done, answer-refused, content-kept, content-new, done-answer, refuse-answer, then-next, then-refuse}
+use Rattle.model.specs.Laws.Done.{list-valid}
+use Rattle.model.specs.Least.{leastTable}
+use Rattle.model.specs.Numbers.{refusal, validatedAs}
+use Rattle.model.specs.Observer.{sheetOf}
+use Rattle.model.specs.Records.{count, records}
+use Rattle.model.specs.Refusals.{answer, done, pass, refuse}
+use Rattle.model.specs.Scripts.{afterList, answersOf, countsOf, notGone, outcomes, stepsIn}
+use Rattle.model.specs.Steps.{outcome, stepBytes}
+use Rattle.model.specs.Tables.{bits, parts, total}
+use Rattle.model.specs.Validity.{validity}
+use Rattle.model.specs.Verdicts.{verdictOf}
+use Rattle.model.specs.declared.Counts.{Counts}
+use Rattle.model.specs.declared.Outcome.{Outcome}
+use Rattle.model.specs.declared.Refusal.{Refusal}
+use Rattle.model.specs.declared.Screen.{Screen}
+use Rattle.model.specs.declared.Validated.{Validated}
+use Rattle.model.specs.declared.Validated.the-variants.{Done as Good, Refused as Bad}
+use Rattle.model.specs.declared.Verdict.{Verdict}
+
+module _ (s : List ℕ) where
+  pub validate-refused : (r : Refusal) → validity s ≡ refuse (r .number) (r .record) → refusal r ≡ validateAnswer s
+  unfolding validateAnswer
+  validate-refused r e = refuse-answer _ r e
+
+  pub validate-done : validity s ≡ pass → (n : ℕ) → n ≡ count s → done n ≡ validateAnswer s
+  unfolding validateAnswer
+  validate-done e n q = done-answer _ e q
+
+  pub container-refused : (i : ℕ) (r : Refusal) → validity s ≡ refuse (r .number) (r .record) → refusal r ≡ containerAnswer s i
+  unfolding containerAnswer
+  container-refused i r e = refuse-answer _ r e
+
+  pub container-done : (i : ℕ) → validity s ≡ pass → (l : ℕ) → l ≡ container (records s) i → done l ≡ containerAnswer s i
+  unfolding containerAnswer
+  container-done i e l q = done-answer _ e q
+
+module _ (s t d : List ℕ) where
+  pub sheet-refused : (r : Refusal) → showing s t d ≡ refuse (r .number) (r .record) → (refusal r ≡ sheetAnswer s t d) × (d ≡ sheetAfter s t d)
+  unfolding sheetAnswer sheetAfter
+  sheet-refused r e = (refuse-answer _ r e, content-kept _ _ e)
+
+  pub sheet-done : showing s t d ≡ pass → (d′ : List ℕ) → d′ ≡ sheetOf s t → (done tt ≡ sheetAnswer s t d) × (d′ ≡ sheetAfter s t d)
+  unfolding sheetAnswer sheetAfter
+  sheet-done e d′ q = (done-answer _ e refl, q ∙ content-new _ _ e)
+
+module _ (s : List ℕ) (c b : ℕ) where
+  pub step-refused : (r : Refusal) → validity s ≡ refuse (r .number) (r .record) → (refusal r ≡ stepAnswer s c b) × (s ≡ stepAfter s c b)
+  unfolding stepAnswer stepping stepAfter
+  step-refused r e = (refuse-answer _ r (then-refuse _ e), content-kept _ _ e)
+
+  -- a step that is decided, done or not
+  pub step-decided : validity s ≡ pass → (o : Outcome) → o ≡ outcome permitAll (records s) c b → (s′ : List ℕ) → s′ ≡ stepBytes permitAll s c b →
+      (answer (outcomeCheck o) tt ≡ stepAnswer s c b) × (s′ ≡ stepAfter s c b)
+  unfolding stepAnswer stepping stepAfter
+  step-decided e o q s′ p = (ap (λ x. answer (outcomeCheck x) tt) q ∙ sym (ap (λ x. answer x tt) (then-next _ e)), p ∙ content-new _ _ e)
+
+module _ (s z a : List ℕ) where
+  pub run-refused : (r : Refusal) → running s z a ≡ refuse (r .number) (r .record) → (refusal r ≡ runAnswer s z a) × (s ≡ runAfter s z a) × (a ≡ runAnswers s z a)
+  unfolding runAnswer runAfter runAnswers
+  run-refused r e = (refuse-answer _ r e, content-kept _ _ e, content-kept _ _ e)
+
+  pub run-done : running s z a ≡ pass → (c : Counts) (s′ a′ : List ℕ) →
+      (c ≡ countsOf (outcomes permitAll s (stepsIn z))) × (s′ ≡ afterList permitAll s (stepsIn z)) × (a′ ≡ answersOf permitAll s (stepsIn z)) →
+      (done c ≡ runAnswer s z a) × (s′ ≡ runAfter s z a) × (a′ ≡ runAnswers s z a)
+  unfolding runAnswer runAfter runAnswers
+  run-done e c s′ a′ w = (done-answer _ e (w .0), w .1 ∙ content-new _ _ e, w .2 ∙ content-new _ _ e)
+
+module _ (s policy table : List ℕ) where
+  pub make-refused : (r : Refusal) → making s policy table ≡ refuse (r .number) (r .record) → (refusal r ≡ makeAnswer s policy table) × (table ≡ makeAfter s policy table)
+  unfolding makeAnswer makeAfter
+  make-refused r e = (refuse-answer _ r e, content-kept _ table e)
+
+  pub make-done : (made : List ℕ) (n : ℕ) → making s policy table ≡ pass → made ≡ leastTable permitAll policy (records s) → n ≡ total made → (done n ≡ makeAnswer s policy table) × (made ≡ makeAfter s policy table)
+  unfolding makeAnswer makeAfter
+  make-done made n e q t = (done-answer _ e (t ∙ ap total q), q ∙ content-new _ table e)
+
+  pub verdict-refused : (r : Refusal) → checking s policy table ≡ refuse (r .number) (r .record) → refusal r ≡ verdictAnswer s policy table
+  unfolding verdictAnswer
+  verdict-refused r e = refuse-answer _ r e
+
+  pub verdict-done : (v : Verdict) → checking s policy table ≡ pass → v ≡ verdictOf (parts (bits table)) policy → done v ≡ verdictAnswer s policy table
+  unfolding verdictAnswer
+  verdict-done v e q = done-answer _ e q
+
+-- an itinerary after a script has whole records, and not too many
+pub run-sized : (s z s′ : List ℕ) → validity s ≡ pass → s′ ≡ afterList permitAll s (stepsIn z) → (length s′ % 8 ≡ 0) × (length s′ ≤ 8192)
+run-sized s z s′ v e = let w = list-valid permitAll (stepsIn z) s v in (rw e (valid-whole _ w), rw e (valid-few _ w))
+
+module _ (s policy z a : List ℕ) where
+  pub screen-refused : (r : Refusal) → screening s policy z a ≡ refuse (r .number) (r .record) →
+      (refusal r ≡ screenAnswer s policy z a) × (s ≡ screenAfter s policy z a) × (a ≡ screenAnswers s policy z a)
+  unfolding screenAnswer screenAfter screenAnswers
+  screen-refused r e = (refuse-answer _ r e, content-kept _ _ e, content-kept _ _ e)
+
+  pub screen-done : screening s policy z a ≡ pass → (x : Screen) (t s′ a′ : List ℕ) → t ≡ leastTable permitAll policy (records s) → x .ones ≡ total t →
+      x .verdict ≡ verdictOf (parts (bits t)) policy →
+      (x .counts ≡ countsOf (outcomes permitAll s (stepsIn z))) × (s′ ≡ afterList permitAll s (stepsIn z)) × (a′ ≡ answersOf permitAll s (stepsIn z)) →
+      x .left ≡ notGone (records s′) → (done x ≡ screenAnswer s policy z a) × (s′ ≡ screenAfter s policy z a) × (a′ ≡ screenAnswers s policy z a)
+  unfolding screenAnswer screenAfter screenAnswers
+  screen-done e x t s′ a′ et eo ev w el =
+      let ones : x .ones ≡ total (leastTable permitAll policy (records s)) = eo ∙ ap total et in
+      let verdict : x .verdict ≡ verdictOf (parts (bits (leastTable permitAll policy (records s)))) policy = ev ∙ ap (λ y. verdictOf (parts (bits y)) policy) et in
+      let left : x .left ≡ notGone (records (afterList permitAll s (stepsIn z))) = el ∙ ap (λ y. notGone (records y)) (w .1) in (
+        done-answer _ e (λ i. record { verdict = verdict i; ones = ones i; counts = w .0 i; left = left i }),
+        w .1 ∙ content-new _ _ e,
+        w .2 ∙ content-new _ _ e,
+      )
+
+-- what the answer of a validation says
+module _ (s : List ℕ) (v : Validated) (h : validatedAs v ≡ validateAnswer s) where
+  pub validate-pass : {n : ℕ} → v ≡ Good n → validity s ≡ pass
+  unfolding validateAnswer validatedAs
+  validate-pass {n} e = answer-done (validity s) _ n (sym h ∙ ap validatedAs e)
+
+  pub validate-refuse : {r : Refusal} → v ≡ Bad r → validity s ≡ refuse (r .number) (r .record)
+  unfolding validateAnswer validatedAs refusal
+  validate-refuse e = answer-refused (validity s) _ (sym h ∙ ap validatedAs e)

@@ -1,4 +1,0 @@
--- What the inner contracts cite, and laws that the proofs cite.
-pub mod Known
-pub mod Laws
-pub mod Nearest

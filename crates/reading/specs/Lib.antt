@@ -1,3 +1,0 @@
--- What a record's bytes are, and bytes that are written record by record.
-pub mod Laws
-pub mod Written

@@ -1,0 +1,3 @@
+-- The seed, closed, is the least table.
+pub mod Least
+pub mod Laws

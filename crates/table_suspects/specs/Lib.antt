@@ -1,0 +1,2 @@
+-- What a suspect makes suspect, and the least closed set of suspects.
+pub mod Suspects
