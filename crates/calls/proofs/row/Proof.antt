@@ -2,7 +2,8 @@
 -- where the table does.
 use borrow.Author.Needs.{needs}
 use borrow.Author.Tests.{eq-eqb, le-leb, lt-leb, ne-eqb}
-use mathlib.Core.Path.{refl}
+use lib.ListN.{length}
+use mathlib.Core.{Bool.{and-false}, Path.{refl}}
 use native.Mathlib.Nat.{add-sub-cancel-left}
 use native.Mathlib.Omega.{arith}
 use Rattle.model.specs.Tables.{tableSized}
@@ -21,7 +22,9 @@ part-result-end c = search needs
 
 returns : tie.Need-returns
 unfolding rowOf partIf tableSized rowStart startIf
-returns c = (simp (ne-eqb _ _ (c .before .if1 .taken)), (refl, simp (ne-eqb _ _ (c .before .if1 .taken)) (omega arith)))
+returns c =
+    let n = ne-eqb (length (c .before .before .args .table .now)) 1544 (λ e. omega (arith, e, c .before .if1 .taken)) in
+    (simp n, (refl, simp n (omega arith)))
 
 sub-result-2 : tie.Need-sub-result-2
 sub-result-2 c = search needs
@@ -35,9 +38,8 @@ part-result-end-2 c = search needs
 returns-2 : tie.Need-returns-2
 unfolding rowOf partIf tableSized rowStart startIf
 returns-2 c =
-    let e = eq-eqb _ _ (c .before .before .if1 .left) in
-    let l = lt-leb _ _ (c .before .if2 .taken) in
-    (simp (e, l), (refl, simp (e, l) (omega arith)))
+    let l = lt-leb (c .before .before .before .args .label) 63 (omega (arith, c .before .if2 .taken)) in
+    (simp (l, and-false), (refl, simp (l, and-false) (omega arith)))
 
 mul-at : tie.Need-mul-at
 mul-at c = search needs
@@ -57,8 +59,8 @@ part-result-end-3 c = search needs
 returns-3 : tie.Need-returns-3
 unfolding rowOf partIf tableSized rowStart startIf
 returns-3 c =
-    let e = eq-eqb _ _ (c .before .before .if1 .left) in
-    let l = le-leb _ _ (c .before .if2 .left) in
+    let e = eq-eqb (length (c .before .before .before .args .table .now)) 1544 (omega (arith, c .before .before .if1 .left)) in
+    let l = le-leb (c .before .before .before .args .label) 63 (omega (arith, c .before .if2 .left)) in
     (simp (e, l, add-sub-cancel-left), (refl, simp (e, l) (omega arith)))
 
 pub row-spec : {M : Type 1} → statement M

@@ -28,7 +28,7 @@ shared-slice-read-if2-2 : tie.Need-shared-slice-read-if2-2 Inv-loop μ-loop
 shared-slice-read-if2-2 c = omega arith
 
 returns-2 : tie.Need-returns-2 Inv-loop μ-loop
-returns-2 c = let l = c .before .before .before .before .loop in sym (l .inv .1 ∙ same-differs (c .before .before .before .before .before .before .args .a .now) (c .before .before .before .before .before .before .args .b .now) (l .i) (omega arith) (omega arith) (λ e. c .if2 .taken e))
+returns-2 c = let l = c .before .before .before .before .loop in sym (l .inv .1 ∙ same-differs (c .before .before .before .before .before .before .args .a .now) (c .before .before .before .before .before .before .args .b .now) (l .i) (omega arith) (omega arith) (λ e. omega (arith, e, c .if2 .taken)))
 
 add-i : tie.Need-add-i Inv-loop μ-loop
 add-i c = omega arith
