@@ -1,6 +1,6 @@
 -- When a table holds: the bits asked for one by one, and the rules. A record as the loops read it.
 use Prim.Native.Nat.{_*_, _+_, _-_, _<_, _≤_, ℕ}
-use borrow.Author.Tests.{eq-eqb, le-leb, lt-leb, ne-eqb}
+use borrow.Author.Tests.{eq-eqb, ne-eqb}
 use lib.Dec.{eqb}
 use lib.ListN.{length}
 use mathlib.Core.Bool.{false, true}
@@ -9,15 +9,14 @@ use mathlib.Core.Path.{_∙_, _≡_, ap, ap₂, subst, sym}
 use native.Mathlib.Omega.{arith}
 use Rattle.model.specs.Analysis.{permitAll}
 use Rattle.model.specs.Climbing.{container, nesting, view}
-use Rattle.model.specs.Laws.Bytes.{at-decode, shape-kind, valid-wf}
-use Rattle.model.specs.Laws.Booleans.{and-make}
+use Rattle.model.specs.Laws.Bytes.{at-decode, valid-wf}
 use Rattle.model.specs.Laws.Containers.{container-small}
 use Rattle.model.specs.Laws.Holding.{Holds}
 use Rattle.model.specs.Laws.WellFormed.{WellFormed, alive-in, alive-pos, amb-nested, labels, named, nested-alive, small}
 use Rattle.model.specs.Records.{at, count, decode, isAmbient, nested, records}
 use Rattle.model.specs.Refusals.{pass}
 use Rattle.model.specs.Tables.{parts, placeH, placeI}
-use Rattle.model.specs.Validity.{kindRight, validity}
+use Rattle.model.specs.Validity.{validity}
 use Rattle.model.specs.declared.Rec.{Rec}
 use Rattle.table_partners.specs.Facts.{Facts, Wanted, bearing, nameCell, nestingCell, standing}
 use Rattle.table_partners.specs.Rules.{AllRules}

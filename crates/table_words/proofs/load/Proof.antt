@@ -2,7 +2,7 @@
 -- the number of words left falls.
 use Prim.Native.Nat.{_*_, _-_, _<_, _≤_, ℕ}
 use lib.ListN.{drop, getD, length, length-set, take}
-use mathlib.Core.Path.{_∙_, _≡_, refl}
+use mathlib.Core.Path.{_≡_, refl}
 use native.Mathlib.Omega.{arith}
 use Rattle.table_words.specs.Words.{fill-next, loaded, value}
 use Rattle.table_words.proofs.load.Statement.{statement}
