@@ -27,8 +27,8 @@ enum-told c = search needs
 act-requires : tie.Need-act-requires
 act-requires c κs = passed _ _ (c .before .before .before .validity .ensures) (c .before .enum-told .given .1)
 
-performed-requires : tie.Need-performed-requires
-performed-requires c κs = search needs
+stepped-requires : tie.Need-stepped-requires
+stepped-requires c κs = search needs
 
 same-length-2 : tie.Need-same-length-2
 same-length-2 c = search needs
@@ -38,7 +38,7 @@ returns-2 c =
     let acted = c .before .before .before in
     let told = acted .before .before in
     let w = step-decided _ _ _ (passed _ _ (told .before .before .validity .ensures) (told .enum-told .given .1)) _ (acted .act .ensures .0) _ (acted .act .ensures .1) in
-    (c .performed .ensures ∙ w .0, w .1)
+    (c .stepped .ensures ∙ w .0, w .1)
 
 pub step-spec : {M : Type 1} → statement M
 step-spec =
@@ -50,6 +50,6 @@ step-spec =
     returns
     enum-told
     act-requires
-    performed-requires
+    stepped-requires
     same-length-2
     returns-2)

@@ -1,4 +1,4 @@
--- `calls::row` meets its contract. By length and label: the part of 16 bytes is within the table, and the empty part starts
+-- `answers::row` meets its contract. By length and label: the part of 16 bytes is within the table, and the empty part starts
 -- where the table does.
 use borrow.Author.Needs.{needs}
 use borrow.Author.Tests.{eq-eqb, le-leb, lt-leb, ne-eqb}
@@ -8,8 +8,8 @@ use native.Mathlib.Nat.{add-sub-cancel-left}
 use native.Mathlib.Omega.{arith}
 use Rattle.model.specs.Tables.{tableSized}
 use Rattle.model.specs.Calls.{partIf, rowOf, rowStart, startIf}
-use Rattle.calls.proofs.row.Statement.{statement}
-use Rattle.calls.proofs.row.Tie as tie
+use Rattle.answers.proofs.row.Statement.{statement}
+use Rattle.answers.proofs.row.Tie as tie
 
 sub-result : tie.Need-sub-result
 sub-result c = search needs

@@ -1,8 +1,8 @@
--- `calls::comparing` meets its contract: its gates, one after the other.
+-- `sequences::comparing` meets its contract: its gates, one after the other.
 use borrow.Author.Needs.{needs}
 use Rattle.model.specs.Calls.{comparing}
-use Rattle.calls.proofs.comparing.Statement.{statement}
-use Rattle.calls.proofs.comparing.Tie as tie
+use Rattle.sequences.proofs.comparing.Statement.{statement}
+use Rattle.sequences.proofs.comparing.Tie as tie
 
 entry-requires : tie.Need-entry-requires
 entry-requires c κs = search needs

@@ -1,8 +1,8 @@
--- `calls::screening` meets its contract: its gates, one after the other.
+-- `sequences::screening` meets its contract: its gates, one after the other.
 use borrow.Author.Needs.{needs}
 use Rattle.model.specs.Calls.{screening}
-use Rattle.calls.proofs.screening.Statement.{statement}
-use Rattle.calls.proofs.screening.Tie as tie
+use Rattle.sequences.proofs.screening.Statement.{statement}
+use Rattle.sequences.proofs.screening.Tie as tie
 
 entry-requires : tie.Need-entry-requires
 entry-requires c κs = search needs

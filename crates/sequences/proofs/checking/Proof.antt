@@ -1,9 +1,9 @@
--- `calls::checking` meets its contract: 9 looks only at what the checks before it let through.
+-- `sequences::checking` meets its contract: 9 looks only at what the checks before it let through.
 use borrow.Author.Needs.{needs}
 use Rattle.model.specs.Laws.Checks.{passed, passes, stopped}
 use Rattle.model.specs.Calls.{checking, comparing, entry}
-use Rattle.calls.proofs.checking.Statement.{statement}
-use Rattle.calls.proofs.checking.Tie as tie
+use Rattle.sequences.proofs.checking.Statement.{statement}
+use Rattle.sequences.proofs.checking.Tie as tie
 
 comparing-requires : tie.Need-comparing-requires
 comparing-requires c κs = search needs

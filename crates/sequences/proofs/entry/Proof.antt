@@ -1,8 +1,8 @@
--- `calls::entry` meets its contract: its gates, one after the other.
+-- `sequences::entry` meets its contract: its gates, one after the other.
 use borrow.Author.Needs.{needs}
 use Rattle.model.specs.Calls.{entry}
-use Rattle.calls.proofs.entry.Statement.{statement}
-use Rattle.calls.proofs.entry.Tie as tie
+use Rattle.sequences.proofs.entry.Statement.{statement}
+use Rattle.sequences.proofs.entry.Tie as tie
 
 validity-requires : tie.Need-validity-requires
 validity-requires c κs = search needs

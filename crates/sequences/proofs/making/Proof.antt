@@ -1,8 +1,8 @@
--- `calls::making` meets its contract: its gates, one after the other.
+-- `sequences::making` meets its contract: its gates, one after the other.
 use borrow.Author.Needs.{needs}
 use Rattle.model.specs.Calls.{making}
-use Rattle.calls.proofs.making.Statement.{statement}
-use Rattle.calls.proofs.making.Tie as tie
+use Rattle.sequences.proofs.making.Statement.{statement}
+use Rattle.sequences.proofs.making.Tie as tie
 
 entry-requires : tie.Need-entry-requires
 entry-requires c κs = search needs

@@ -1,8 +1,8 @@
--- `calls::showing` meets its contract: its gates, one after the other.
+-- `sequences::showing` meets its contract: its gates, one after the other.
 use borrow.Author.Needs.{needs}
 use Rattle.model.specs.Calls.{showing}
-use Rattle.calls.proofs.showing.Statement.{statement}
-use Rattle.calls.proofs.showing.Tie as tie
+use Rattle.sequences.proofs.showing.Statement.{statement}
+use Rattle.sequences.proofs.showing.Tie as tie
 
 validity-requires : tie.Need-validity-requires
 validity-requires c κs = search needs

@@ -1,8 +1,8 @@
--- `calls::running` meets its contract: its gates, one after the other.
+-- `sequences::running` meets its contract: its gates, one after the other.
 use borrow.Author.Needs.{needs}
 use Rattle.model.specs.Calls.{running}
-use Rattle.calls.proofs.running.Statement.{statement}
-use Rattle.calls.proofs.running.Tie as tie
+use Rattle.sequences.proofs.running.Statement.{statement}
+use Rattle.sequences.proofs.running.Tie as tie
 
 validity-requires : tie.Need-validity-requires
 validity-requires c κs = search needs

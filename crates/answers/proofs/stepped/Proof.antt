@@ -1,11 +1,11 @@
--- `calls::performed` meets its contract: by the outcome, done or refused.
+-- `answers::stepped` meets its contract: by the outcome, done or refused.
 use borrow.Author.Needs.{needs}
 use mathlib.Core.Path.{ap, sym}
 use Rattle.model.specs.Calls.{outcomeCheck}
 use Rattle.model.specs.Numbers.{performedAs, refusal}
 use Rattle.model.specs.Refusals.{answer}
-use Rattle.calls.proofs.performed.Statement.{statement}
-use Rattle.calls.proofs.performed.Tie as tie
+use Rattle.answers.proofs.stepped.Statement.{statement}
+use Rattle.answers.proofs.stepped.Tie as tie
 
 enum-told : tie.Need-enum-told
 enum-told c = search needs
@@ -21,5 +21,5 @@ returns-2 : tie.Need-returns-2
 unfolding performedAs refusal outcomeCheck answer
 returns-2 c = sym (ap (λ o. answer (outcomeCheck o) tt) (c .before .o .given .1))
 
-pub performed-spec : {M : Type 1} → statement M
-performed-spec = tie.close (tie.spec enum-told enum-known-o returns returns-2)
+pub stepped-spec : {M : Type 1} → statement M
+stepped-spec = tie.close (tie.spec enum-told enum-known-o returns returns-2)
