@@ -1,6 +1,6 @@
 -- `birnsket::hub_screen` meets its contract. The call's contract, packed.
 use mathlib.Core.Path.{ap, _∙_}
-use Rattle.birnsket.specs.Packing.{packed, screens}
+use Rattle.packing.specs.Packing.{screenResult}
 use borrow.Author.Needs.{needs}
 use Rattle.birnsket.proofs.hub_screen.Statement.{statement}
 use Rattle.birnsket.proofs.hub_screen.Tie as tie
@@ -8,8 +8,8 @@ use Rattle.birnsket.proofs.hub_screen.Tie as tie
 screen-requires : tie.Need-screen-requires
 screen-requires c κs = search needs
 
-screened-requires : tie.Need-screened-requires
-screened-requires c κs = search needs
+pack-requires : tie.Need-pack-requires
+pack-requires c κs = search needs
 
 same-length : tie.Need-same-length
 same-length c = search needs
@@ -19,9 +19,9 @@ same-length-2 c = search needs
 
 returns : tie.Need-returns
 returns c =
-    let known = c .before .before .before .before .before .before .screen .ensures in
-    (c .screened .ensures .0 ∙ ap (packed screens) (known .0), known .1, known .2, rw (c .screened .ensures .1, known .0))
+    let known = c .before .before .before .before .before .screen .ensures in
+    (c .pack .ensures ∙ ap screenResult (known .0), known .1, known .2)
 
 pub hub-screen-spec : {M : Type 1} → statement M
 hub-screen-spec =
-    tie.close (tie.spec screen-requires screened-requires same-length same-length-2 returns)
+    tie.close (tie.spec screen-requires pack-requires same-length same-length-2 returns)
