@@ -1,32 +1,32 @@
 /*
  * birnsket.h: the bench hub's ambient screen, for callers in C.
  *
- * Link with libbirnsket.a, which `rt staticlib birnsket` writes for x86-64
- * (System V calling convention). The formats, the words and the rules that the
- * calls use are explained first; each call's contract stands with it.
+ * Link with libbirnsket.a, which `rt staticlib birnsket` writes and ./install
+ * puts beside this header. It is for x86-64 with the System V calling
+ * convention only, and needs memcpy and memset of whatever it is linked with,
+ * nothing else. This header compiles as C99 and as C++11. The formats, the
+ * words and the rules that the calls use are explained first; each call's
+ * contract stands with it.
  *
  * WHAT A CALLER OWES
  *
  * The promises below are proved for callers that keep these rules. Nothing
  * checks them at run time.
  *
- *  - A buffer is a pointer to its first byte and its length in bytes. The
- *    pointer is never null, not even for length 0; with length 0 any other
- *    address will do, since nothing is read or written there. Bytes need no
- *    alignment.
+ *  - A buffer is a pointer to its first byte and its length. The length is
+ *    always in bytes, not in records, labels or steps. The pointer is never
+ *    null, not even for length 0; with length 0 any other address will do,
+ *    since nothing is read or written there. Bytes need no alignment.
  *  - All bytes of the length given are the caller's, initialised and readable;
  *    those of a buffer passed without `const` can be written too. A length
  *    is at most PTRDIFF_MAX.
  *  - A buffer passed without `const` overlaps no other buffer of the same
  *    call. Buffers passed with `const` may overlap each other.
- *  - `label` of hub_screen points to one number of the caller's. The pointer
- *    is never null and is aligned for uint16_t. The number is initialised, can
- *    be written, and overlaps no buffer of the call.
  *  - During the call nobody else (thread, interrupt, device) writes a buffer
- *    of the call, and nobody else reads one passed without `const`; nor the
- *    number at `label`.
- *  - The stack has room. docs/BENCHMARKS.md has the depth measured; 128 KiB is
- *    enough for every call measured.
+ *    of the call, and nobody else reads one passed without `const`.
+ *  - The stack has room: allow 128 KiB (HUB_STACK) below the caller. The depth
+ *    is measured, not proved: docs/BENCHMARKS.md has the deepest found of each
+ *    call, the most about 82 KiB, over chains and rings of 1,024 records.
  *
  * Apart from that any bytes of any length are fine: what is not as it should
  * be is refused.
@@ -137,17 +137,31 @@
  *
  * ANSWERS
  *
- * Every call returns a HubResult. `number` is 0 when the call was done; v0 to
- * v5 are then the values listed with the call, those not listed are 0, and so
- * is `at`. Otherwise `number` is that of the first cause to refuse, `at` the
- * record it was found at (0 if it is none's), and v0 to v5 are 0.
+ * Every call returns a struct of its own, whose fields are all uint32_t; the
+ * first two are `number` and `record`. Both are 0 when the call was done; the
+ * fields after them are then as said with the call. Otherwise `number` is that
+ * of the first cause to refuse, `record` the record it was found at (0 if it is
+ * none's), and the fields after them are 0.
  *
- * A refused call leaves every buffer as it was, and the number at `label` too.
- * A call that is done changes what is passed without `const`, as said with the
- * call, and nothing else.
+ * A refused call leaves every buffer as it was. A call that is done changes
+ * what is passed without `const`, as said with the call, and nothing else.
  *
  * Causes are looked for in this order, as far as the call has them: 1; then
  * record by record 2, 3, 4, 5; then 6, 7, 8, 13, 14, 9, 10, 11, 12.
+ *
+ * VERSION
+ *
+ * HUB_VERSION is major * 65536 + minor * 256 + patch. A change raises
+ *
+ *  major  where an entry's arguments or a struct's fields change, a format
+ *         changes, or an input gets another answer;
+ *  minor  where an entry, a macro or a helper is new;
+ *  patch  where nothing changes that a caller can see but speed, stack or
+ *         words.
+ *
+ * A part that is raised sets those after it to 0. hub_version() is the version
+ * of the archive that is linked; a program that was compiled with this header
+ * goes with an archive of the same major and of the same or a later minor part.
  */
 #ifndef BIRNSKET_H
 #define BIRNSKET_H
@@ -159,6 +173,10 @@
 extern "C" {
 #endif
 
+/* The version of this header; see VERSION above. */
+#define HUB_VERSION 0x010000u
+
+/* Lengths in bytes, and how many records and steps there can be. */
 #define HUB_RECORD_LENGTH 8
 #define HUB_MOST_RECORDS 1024
 #define HUB_POLICY_LENGTH 64
@@ -167,156 +185,318 @@ extern "C" {
 #define HUB_STEP_LENGTH 4
 #define HUB_MOST_STEPS 1024
 
-/* Values of `number`; 2 to 6 come with a record in `at`. */
-enum {
-    HUB_DONE = 0,
-    /* itinerary length no multiple of 8, or over 8,192 */
-    HUB_ITINERARY_LENGTH = 1,
-    /* kind over 4, a spare byte not 0, or a gone record not all 0 */
-    HUB_RECORD_FORM = 2,
-    /* label wrong for its kind */
-    HUB_LABEL = 3,
-    /* name over 63 */
-    HUB_NAME = 4,
-    /* parent over the record count, or a record of kind 0 */
-    HUB_PARENT = 5,
-    /* climbing doesn't reach 0; `at` is the lowest such record */
-    HUB_CLIMB = 6,
-    /* policy not 64 bytes, a byte over 2, or byte 0 not 0 */
-    HUB_POLICY = 7,
-    /* table not 1,544 bytes, bit 0 of a row of I set, or row 0 of H not 0 */
-    HUB_TABLE = 8,
-    /* the table doesn't hold for itinerary and policy */
-    HUB_HOLDS_NOT = 9,
-    /* actor 0, over the count, or no capability */
-    HUB_ACTOR = 10,
-    /* actor inactive, or in/out without an ambient as parent */
-    HUB_INACTIVE = 11,
-    /* partner unfit for any cause, 0 and over the count included */
-    HUB_PARTNER = 12,
-    /* script no multiple of 4 or over 4,096, or answers not one byte a step */
-    HUB_SCRIPT = 13,
-    /* sheet not as long as the itinerary */
-    HUB_SHEET = 14
-};
+/* Bytes of stack to allow for a call; see WHAT A CALLER OWES. */
+#define HUB_STACK 131072
 
-/* v0 of hub_verdict and of hub_screen. */
+/* Byte 0 of a record. */
+enum { HUB_GONE = 0, HUB_AMBIENT = 1, HUB_IN = 2, HUB_OUT = 3, HUB_OPEN = 4 };
+
+/* Bytes of a policy. */
+enum { HUB_LOW = 0, HUB_HIGH = 1, HUB_BOUNDARY = 2 };
+
+/* Field `verdict` of hub_verdict and of hub_screen. */
 enum { HUB_EXPOSED = 1, HUB_HINTED = 2, HUB_SEALED = 3 };
 
-typedef struct HubResult {
-    uint16_t number;
-    uint16_t at;
-    uint16_t v0;
-    uint16_t v1;
-    uint16_t v2;
-    uint16_t v3;
-    uint16_t v4;
-    uint16_t v5;
-} HubResult;
+/*
+ * Field `number` of every result, and the bytes of answers (0, 10, 11, 12).
+ * hub_cause has them in words; 2 to 6 come with a record.
+ */
+enum {
+    HUB_DONE = 0,
+    HUB_REFUSED_LENGTH = 1,  /* the itinerary's */
+    HUB_REFUSED_FORM = 2,    /* kind, spare bytes, gone record not all 0 */
+    HUB_REFUSED_LABEL = 3,
+    HUB_REFUSED_NAME = 4,
+    HUB_REFUSED_PARENT = 5,
+    HUB_REFUSED_CLIMB = 6,   /* `record` is the lowest that doesn't reach 0 */
+    HUB_REFUSED_POLICY = 7,
+    HUB_REFUSED_TABLE = 8,   /* length or form */
+    HUB_REFUSED_HOLDS = 9,   /* the table doesn't hold */
+    HUB_REFUSED_ACTOR = 10,
+    HUB_REFUSED_ACTIVE = 11, /* the actor is not, or moves no ambient */
+    HUB_REFUSED_PARTNER = 12,
+    HUB_REFUSED_SCRIPT = 13, /* or its answers */
+    HUB_REFUSED_SHEET = 14
+};
+
+typedef struct HubValidateResult {
+    uint32_t number;
+    uint32_t record;
+    uint32_t records;
+} HubValidateResult;
+
+typedef struct HubContainerResult {
+    uint32_t number;
+    uint32_t record;
+    uint32_t label;
+} HubContainerResult;
+
+typedef struct HubSheetResult {
+    uint32_t number;
+    uint32_t record;
+} HubSheetResult;
+
+typedef struct HubStepResult {
+    uint32_t number;
+    uint32_t record;
+} HubStepResult;
+
+typedef struct HubRunResult {
+    uint32_t number;
+    uint32_t record;
+    uint32_t ins;
+    uint32_t outs;
+    uint32_t opens;
+} HubRunResult;
+
+typedef struct HubCheckResult {
+    uint32_t number;
+    uint32_t record;
+} HubCheckResult;
+
+typedef struct HubMakeResult {
+    uint32_t number;
+    uint32_t record;
+    uint32_t bits;
+} HubMakeResult;
+
+typedef struct HubVerdictResult {
+    uint32_t number;
+    uint32_t record;
+    uint32_t verdict;
+    uint32_t label;
+} HubVerdictResult;
+
+typedef struct HubRowResult {
+    uint32_t number;
+    uint32_t record;
+    uint32_t offset;
+    uint32_t length;
+} HubRowResult;
+
+typedef struct HubScreenResult {
+    uint32_t number;
+    uint32_t record;
+    uint32_t verdict;
+    uint32_t label;
+    uint32_t bits;
+    uint32_t ins;
+    uint32_t outs;
+    uint32_t opens;
+    uint32_t records;
+} HubScreenResult;
+
+/* The version of the archive, as HUB_VERSION. */
+uint32_t hub_version(void);
 
 /*
  * Validates an itinerary.
- * Done: v0 is the number of records, gone ones counted.
+ * Done: `records` is the number of records, gone ones counted.
  * Refuses with 1 to 6.
  */
-HubResult hub_validate(const uint8_t *itinerary, size_t itinerary_length);
+HubValidateResult hub_validate(const uint8_t *itinerary,
+                               size_t itinerary_length);
 
 /*
  * The container of record `number`.
- * Done: v0 is the label; 0 if no ambient is above it, and for number 0, a
- * number over the count or a gone record.
+ * Done: `label` is its label; 0 if no ambient is above it, and for number 0,
+ * a number over the count or a gone record.
  * Refuses with 1 to 6.
  */
-HubResult hub_container(const uint8_t *itinerary, size_t itinerary_length,
-                        uint16_t number);
+HubContainerResult hub_container(const uint8_t *itinerary,
+                                 size_t itinerary_length, uint16_t number);
 
 /*
  * Writes the observer's sheet, by itinerary and table alone: whether the table
  * holds is not looked at.
  * Done: the sheet has each record that is neither hidden nor gone as in the
- * itinerary, and eight zero bytes for each other. No values.
+ * itinerary, and eight zero bytes for each other.
  * Refuses with 1 to 6, 8, 14.
  */
-HubResult hub_sheet(const uint8_t *itinerary, size_t itinerary_length,
-                    const uint8_t *table, size_t table_length,
-                    uint8_t *sheet, size_t sheet_length);
+HubSheetResult hub_sheet(const uint8_t *itinerary, size_t itinerary_length,
+                         const uint8_t *table, size_t table_length,
+                         uint8_t *sheet, size_t sheet_length);
 
 /*
  * Does one step in the itinerary. Actor and partner are any numbers.
- * Done: the itinerary is that after the step. No values.
+ * Done: the itinerary is that after the step.
  * Refuses with 1 to 6, 10, 11, 12.
  */
-HubResult hub_step(uint8_t *itinerary, size_t itinerary_length,
-                   uint16_t actor, uint16_t partner);
+HubStepResult hub_step(uint8_t *itinerary, size_t itinerary_length,
+                       uint16_t actor, uint16_t partner);
 
 /*
  * Does the steps of a script in order, each in the itinerary that the one
  * before it left; a step that is refused changes nothing and the run goes on.
  * Done: the itinerary is that after the last step; answers has a byte for each
- * step, 0 where it was done, else 10, 11 or 12; v0, v1 and v2 are the number
- * of in, out and open steps done.
+ * step, 0 where it was done, else 10, 11 or 12; `ins`, `outs` and `opens` are
+ * the number of in, out and open steps done.
  * Refuses with 1 to 6, 13.
  */
-HubResult hub_run(uint8_t *itinerary, size_t itinerary_length,
-                  const uint8_t *script, size_t script_length,
-                  uint8_t *answers, size_t answers_length);
+HubRunResult hub_run(uint8_t *itinerary, size_t itinerary_length,
+                     const uint8_t *script, size_t script_length,
+                     uint8_t *answers, size_t answers_length);
 
 /*
  * Checks that a table holds for an itinerary and a policy.
- * Done: the table is accepted. No values.
+ * Done: the table is accepted.
  * Refuses with 1 to 6, 7, 8, 9.
  */
-HubResult hub_check(const uint8_t *itinerary, size_t itinerary_length,
-                    const uint8_t *policy, size_t policy_length,
-                    const uint8_t *table, size_t table_length);
+HubCheckResult hub_check(const uint8_t *itinerary, size_t itinerary_length,
+                         const uint8_t *policy, size_t policy_length,
+                         const uint8_t *table, size_t table_length);
 
 /*
  * Makes the least table that holds for an itinerary and a policy. What the
  * table had before makes no difference.
- * Done: the table is the least one; v0 is how many of its bits are one.
+ * Done: the table is the least one; `bits` is how many of its bits are one.
  * Refuses with 1 to 6, 7, and with 8 a table that is not 1,544 bytes.
  */
-HubResult hub_make(const uint8_t *itinerary, size_t itinerary_length,
-                   const uint8_t *policy, size_t policy_length,
-                   uint8_t *table, size_t table_length);
+HubMakeResult hub_make(const uint8_t *itinerary, size_t itinerary_length,
+                       const uint8_t *policy, size_t policy_length,
+                       uint8_t *table, size_t table_length);
 
 /*
  * The verdict on an itinerary, a policy and a table, after the check.
- * Done: v0 is HUB_EXPOSED, HUB_HINTED or HUB_SEALED; v1 is the verdict's
- * label, 0 if sealed.
+ * Done: `verdict` is HUB_EXPOSED, HUB_HINTED or HUB_SEALED; `label` is the
+ * verdict's label, 0 if sealed.
  * Refuses with 1 to 6, 7, 8, 9.
  */
-HubResult hub_verdict(const uint8_t *itinerary, size_t itinerary_length,
-                      const uint8_t *policy, size_t policy_length,
-                      const uint8_t *table, size_t table_length);
+HubVerdictResult hub_verdict(const uint8_t *itinerary, size_t itinerary_length,
+                             const uint8_t *policy, size_t policy_length,
+                             const uint8_t *table, size_t table_length);
 
 /*
  * The row of a label in I, as a part of the table that was passed.
- * Done: the row is the v1 bytes from table + v0: 16 bytes from 16 * label; 0
- * and 0, the empty part, for a label over 63 or a table that is not 1,544
- * bytes.
- * Never refuses. (It looks at the length alone; that no byte is read is seen in
- * the source.)
+ * Done: the row is the `length` bytes from table + `offset`: 16 bytes from 16 *
+ * label; 0 and 0, the empty part, for a label over 63 or a table that is not
+ * 1,544 bytes.
+ * Never refuses: `number` and `record` are 0. (It looks at the length alone;
+ * that no byte is read is seen in the source.)
  */
-HubResult hub_row(const uint8_t *table, size_t table_length, uint8_t label);
+HubRowResult hub_row(const uint8_t *table, size_t table_length, uint8_t label);
 
 /*
  * Makes the least table of the itinerary for itself, takes the verdict by it,
  * and then runs the script as hub_run does.
- * Done: itinerary and answers are as hub_run leaves them; v0 is HUB_EXPOSED,
- * HUB_HINTED or HUB_SEALED, and *label is the verdict's label, 0 if sealed; v1
- * is how many bits of the table are one; v2, v3 and v4 are the number of in,
- * out and open steps done; v5 is how many records are not gone at the end.
- * Refuses with 1 to 6, 7, 13; *label then is what it was.
+ * Done: itinerary and answers are as hub_run leaves them; `verdict` is
+ * HUB_EXPOSED, HUB_HINTED or HUB_SEALED and `label` its label, 0 if sealed;
+ * `bits` is how many bits of the table are one; `ins`, `outs` and `opens` are
+ * the number of in, out and open steps done; `records` is how many records are
+ * not gone at the end.
+ * Refuses with 1 to 6, 7, 13.
  */
-HubResult hub_screen(uint8_t *itinerary, size_t itinerary_length,
-                     const uint8_t *policy, size_t policy_length,
-                     const uint8_t *script, size_t script_length,
-                     uint8_t *answers, size_t answers_length,
-                     uint16_t *label);
+HubScreenResult hub_screen(uint8_t *itinerary, size_t itinerary_length,
+                           const uint8_t *policy, size_t policy_length,
+                           const uint8_t *script, size_t script_length,
+                           uint8_t *answers, size_t answers_length);
 
 #ifdef __cplusplus
 }
 #endif
+
+/*
+ * HELPERS
+ *
+ * They are compiled with the caller's code and are no part of the archive;
+ * nothing is proved of them. A record's bytes, and a step's, are all the
+ * caller's: the helpers check no length.
+ */
+
+/* What a record says; its spare bytes aren't looked at. */
+typedef struct HubRecord {
+    uint8_t kind;
+    uint8_t label;
+    uint8_t name;
+    uint16_t parent;
+} HubRecord;
+
+typedef struct HubStep {
+    uint16_t actor;
+    uint16_t partner;
+} HubStep;
+
+/* Writes the HUB_RECORD_LENGTH bytes of a record, spare ones zero. */
+static inline void hub_write_record(uint8_t *bytes, uint8_t kind, uint8_t label,
+                                    uint8_t name, uint16_t parent)
+{
+    bytes[0] = kind;
+    bytes[1] = label;
+    bytes[2] = name;
+    bytes[3] = 0;
+    bytes[4] = (uint8_t)(parent & 255u);
+    bytes[5] = (uint8_t)(parent >> 8);
+    bytes[6] = 0;
+    bytes[7] = 0;
+}
+
+static inline HubRecord hub_read_record(const uint8_t *bytes)
+{
+    HubRecord record;
+    record.kind = bytes[0];
+    record.label = bytes[1];
+    record.name = bytes[2];
+    record.parent = (uint16_t)(bytes[4] | (unsigned)bytes[5] << 8);
+    return record;
+}
+
+/* Writes the HUB_STEP_LENGTH bytes of a step. */
+static inline void hub_write_step(uint8_t *bytes, uint16_t actor,
+                                  uint16_t partner)
+{
+    bytes[0] = (uint8_t)(actor & 255u);
+    bytes[1] = (uint8_t)(actor >> 8);
+    bytes[2] = (uint8_t)(partner & 255u);
+    bytes[3] = (uint8_t)(partner >> 8);
+}
+
+static inline HubStep hub_read_step(const uint8_t *bytes)
+{
+    HubStep step;
+    step.actor = (uint16_t)(bytes[0] | (unsigned)bytes[1] << 8);
+    step.partner = (uint16_t)(bytes[2] | (unsigned)bytes[3] << 8);
+    return step;
+}
+
+/* A result's number, or an answer's byte, in words. */
+static inline const char *hub_cause(uint32_t number)
+{
+    switch (number) {
+    case HUB_DONE:
+        return "done";
+    case HUB_REFUSED_LENGTH:
+        return "itinerary length no multiple of 8, or over 8,192";
+    case HUB_REFUSED_FORM:
+        return "kind over 4, a spare byte not 0, or a gone record not all 0";
+    case HUB_REFUSED_LABEL:
+        return "label wrong for its kind";
+    case HUB_REFUSED_NAME:
+        return "name over 63";
+    case HUB_REFUSED_PARENT:
+        return "parent over the record count, or a record of kind 0";
+    case HUB_REFUSED_CLIMB:
+        return "climbing doesn't reach 0";
+    case HUB_REFUSED_POLICY:
+        return "policy not 64 bytes, a byte over 2, or byte 0 not 0";
+    case HUB_REFUSED_TABLE:
+        return "table not 1,544 bytes, bit 0 of a row of I set, or row 0 of H "
+               "not 0";
+    case HUB_REFUSED_HOLDS:
+        return "the table doesn't hold for itinerary and policy";
+    case HUB_REFUSED_ACTOR:
+        return "actor 0, over the count, or no capability";
+    case HUB_REFUSED_ACTIVE:
+        return "actor inactive, or in/out without an ambient as parent";
+    case HUB_REFUSED_PARTNER:
+        return "partner unfit for any cause, 0 and over the count included";
+    case HUB_REFUSED_SCRIPT:
+        return "script no multiple of 4 or over 4,096, or answers not one byte "
+               "a step";
+    case HUB_REFUSED_SHEET:
+        return "sheet not as long as the itinerary";
+    default:
+        return "unknown cause";
+    }
+}
 
 #endif
