@@ -1,27 +1,46 @@
 //! The entries as the archive has them. What a caller owes is in include/birnsket.h.
 
-/// Number 0 and up to six values where the call is done, else a refusal's number and record.
-#[repr(C)]
-#[derive(Clone, Copy, Debug, PartialEq, Eq)]
-pub struct HubResult {
-    pub number: u16,
-    pub at: u16,
-    pub v0: u16,
-    pub v1: u16,
-    pub v2: u16,
-    pub v3: u16,
-    pub v4: u16,
-    pub v5: u16,
+/// HUB_VERSION of the header that these declarations follow.
+pub const HUB_VERSION: u32 = 0x010000;
+
+/// Results: number and record 0 and the fields named where the call is done, else a refusal's number and record
+/// and zeros.
+macro_rules! results {
+    ($($name:ident { $($field:ident),* })+) => {
+        $(
+            #[repr(C)]
+            #[derive(Clone, Copy, Debug, PartialEq, Eq)]
+            pub struct $name {
+                pub number: u32,
+                pub record: u32,
+                $(pub $field: u32,)*
+            }
+        )+
+    };
 }
 
-/// First byte of a slice that is only read; its length follows.
+results! {
+    HubValidateResult { records }
+    HubContainerResult { label }
+    HubSheetResult {}
+    HubStepResult {}
+    HubRunResult { ins, outs, opens }
+    HubCheckResult {}
+    HubMakeResult { bits }
+    HubVerdictResult { verdict, label }
+    HubRowResult { offset, length }
+    HubScreenResult { verdict, label, bits, ins, outs, opens, records }
+}
+
+/// First byte of a slice that is only read; its length in bytes follows.
 type Bytes = *const u8;
-/// First byte of a slice that is written; its length follows.
+/// First byte of a slice that is written; its length in bytes follows.
 type BytesMut = *mut u8;
 
 extern "C" {
-    pub fn hub_validate(it: Bytes, it_len: usize) -> HubResult;
-    pub fn hub_container(it: Bytes, it_len: usize, number: u16) -> HubResult;
+    pub fn hub_version() -> u32;
+    pub fn hub_validate(it: Bytes, it_len: usize) -> HubValidateResult;
+    pub fn hub_container(it: Bytes, it_len: usize, number: u16) -> HubContainerResult;
     pub fn hub_sheet(
         it: Bytes,
         it_len: usize,
@@ -29,8 +48,8 @@ extern "C" {
         table_len: usize,
         sheet: BytesMut,
         sheet_len: usize,
-    ) -> HubResult;
-    pub fn hub_step(it: BytesMut, it_len: usize, actor: u16, partner: u16) -> HubResult;
+    ) -> HubSheetResult;
+    pub fn hub_step(it: BytesMut, it_len: usize, actor: u16, partner: u16) -> HubStepResult;
     pub fn hub_run(
         it: BytesMut,
         it_len: usize,
@@ -38,7 +57,7 @@ extern "C" {
         script_len: usize,
         answers: BytesMut,
         answers_len: usize,
-    ) -> HubResult;
+    ) -> HubRunResult;
     pub fn hub_check(
         it: Bytes,
         it_len: usize,
@@ -46,7 +65,7 @@ extern "C" {
         policy_len: usize,
         table: Bytes,
         table_len: usize,
-    ) -> HubResult;
+    ) -> HubCheckResult;
     pub fn hub_make(
         it: Bytes,
         it_len: usize,
@@ -54,7 +73,7 @@ extern "C" {
         policy_len: usize,
         table: BytesMut,
         table_len: usize,
-    ) -> HubResult;
+    ) -> HubMakeResult;
     pub fn hub_verdict(
         it: Bytes,
         it_len: usize,
@@ -62,8 +81,8 @@ extern "C" {
         policy_len: usize,
         table: Bytes,
         table_len: usize,
-    ) -> HubResult;
-    pub fn hub_row(table: Bytes, table_len: usize, label: u8) -> HubResult;
+    ) -> HubVerdictResult;
+    pub fn hub_row(table: Bytes, table_len: usize, label: u8) -> HubRowResult;
     pub fn hub_screen(
         it: BytesMut,
         it_len: usize,
@@ -73,6 +92,5 @@ extern "C" {
         script_len: usize,
         answers: BytesMut,
         answers_len: usize,
-        label: *mut u16,
-    ) -> HubResult;
+    ) -> HubScreenResult;
 }

@@ -1,6 +1,9 @@
 //! The lettered examples of the scope document, through the safe calls.
 
 use crate::*;
+use std::string::{String, ToString};
+use std::vec;
+use std::vec::Vec;
 
 /// Kind, label, name, parent.
 type Fields = (u8, u8, u8, u16);
@@ -29,19 +32,19 @@ fn parent(itinerary: &[u8], number: usize) -> u16 {
 }
 
 /// Makes the table, has it checked, and gives bits, suspects and verdict.
-fn screened(records: &[Fields], policy: &[u8]) -> (u16, Vec<u8>, Verdict) {
+fn screened(records: &[Fields], policy: &[u8]) -> (u32, Vec<u8>, Verdict) {
     let itinerary = bytes(records);
     let mut table = vec![0xff; TABLE_LENGTH];
-    let ones = make(&itinerary, policy, &mut table).unwrap();
+    let bits = make(&itinerary, policy, &mut table).unwrap();
     check(&itinerary, policy, &table).unwrap();
     let judged = verdict(&itinerary, policy, &table).unwrap();
     let suspects = (0..64u8).filter(|k| table[1536 + usize::from(k / 8)] >> (k % 8) & 1 == 1).collect();
     let shown = screen(&mut itinerary.clone(), policy, &[], &mut []).unwrap();
-    assert_eq!((shown.ones, shown.verdict), (ones, judged));
-    (ones, suspects, judged)
+    assert_eq!((shown.bits, shown.verdict), (bits, judged));
+    (bits, suspects, judged)
 }
 
-fn refusal(number: u16, record: u16) -> Refusal {
+fn refusal(number: u32, record: u32) -> Refusal {
     Refusal { number, record }
 }
 
@@ -82,7 +85,7 @@ fn example_b_script() {
     let counts = Counts { ins: 0, outs: 1, opens: 0 };
     let (mut first, mut second, mut answers) = (bytes(&B), bytes(&B), [7; 2]);
     let shown = screen(&mut first, &usual(), &script, &mut answers).unwrap();
-    assert_eq!(shown, Screen { verdict: Verdict::Exposed(2), ones: 7, counts, left: 2 });
+    assert_eq!(shown, Screen { verdict: Verdict::Exposed(2), bits: 7, counts, records: 2 });
     assert_eq!(answers, [0, 10]);
     answers = [7; 2];
     assert_eq!(run(&mut second, &script, &mut answers), Ok(counts));
@@ -90,10 +93,10 @@ fn example_b_script() {
     assert_eq!(run(&mut bytes(&B), &script, &mut [7]), Err(refusal(13, 0)));
 }
 
-/// Number and v0 of the entry itself on B: the wrapper doesn't show what a refusal leaves in the label.
-fn enter_screen(policy: &[u8], label: &mut u16) -> (u16, u16) {
+/// The entry itself on B: the wrapper doesn't show what a refusal leaves in the fields.
+fn enter_screen(policy: &[u8]) -> raw::HubScreenResult {
     let (mut itinerary, script, mut answers): (_, [u8; 0], [u8; 0]) = (bytes(&B), [], []);
-    let result = unsafe {
+    unsafe {
         raw::hub_screen(
             itinerary.as_mut_ptr(),
             itinerary.len(),
@@ -103,18 +106,27 @@ fn enter_screen(policy: &[u8], label: &mut u16) -> (u16, u16) {
             script.len(),
             answers.as_mut_ptr(),
             answers.len(),
-            label,
         )
-    };
-    (result.number, result.v0)
+    }
 }
 
 #[test]
-fn example_b_label() {
-    let mut label = 777;
-    assert_eq!((enter_screen(&[0; 63], &mut label), label), ((7, 0), 777));
-    assert_eq!((enter_screen(&usual(), &mut label), label), ((0, 1), 2));
-    assert_eq!((enter_screen(&[0; 64], &mut label), label), ((0, 3), 0));
+fn example_b_fields() {
+    let nothing = raw::HubScreenResult {
+        number: 7,
+        record: 0,
+        verdict: 0,
+        label: 0,
+        bits: 0,
+        ins: 0,
+        outs: 0,
+        opens: 0,
+        records: 0,
+    };
+    assert_eq!(enter_screen(&[0; 63]), nothing);
+    let sealed = raw::HubScreenResult { number: 0, verdict: 3, bits: 6, records: 3, ..nothing };
+    assert_eq!(enter_screen(&[0; 64]), sealed);
+    assert_eq!(enter_screen(&usual()), raw::HubScreenResult { verdict: 1, label: 2, bits: 7, ..sealed });
 }
 
 #[test]
@@ -181,4 +193,31 @@ fn tables_and_policies_refused() {
     table[0] = 1;
     assert_eq!(verdict(&itinerary, &policy, &table), Err(refusal(8, 0)));
     assert_eq!(sheet(&itinerary, &table, &mut [0; 16]), Err(refusal(8, 0)));
+}
+
+/// What a line of the header defines.
+fn defined(name: &str) -> &'static str {
+    let header = include_str!("../../include/birnsket.h");
+    header.lines().find_map(|line| line.strip_prefix("#define ")?.strip_prefix(name)).unwrap().trim()
+}
+
+#[test]
+fn the_header_has_the_same_numbers() {
+    assert_eq!(defined("HUB_VERSION "), "0x010000u");
+    assert_eq!((raw::HUB_VERSION, version()), (0x010000, 0x010000));
+    assert_eq!(defined("HUB_POLICY_LENGTH "), POLICY_LENGTH.to_string());
+    assert_eq!(defined("HUB_TABLE_LENGTH "), TABLE_LENGTH.to_string());
+}
+
+#[test]
+fn the_header_has_the_same_causes() {
+    let header = include_str!("../../include/birnsket.h");
+    // Its words in one line, and parts of a string joined.
+    let words = header.split_whitespace().collect::<Vec<_>>().join(" ").replace(" \" \"", " ");
+    let causes: Vec<String> =
+        (1..15).map(|n| std::format!("return \"{}\";", refusal(n, 0).cause())).collect();
+    let found: Vec<usize> = causes.iter().map(|cause| words.find(cause.as_str()).unwrap()).collect();
+    assert!(found.is_sorted());
+    assert_eq!(words.matches("return \"").count(), causes.len() + 2);
+    assert!((0..100).filter(|&n| refusal(n, 0).cause() != "unknown cause").eq(1..15));
 }
