@@ -1,4 +1,4 @@
-//! The six buffers of the calls and the screen's label.
+//! The six buffers of the calls.
 
 /// What is lent to a call; a call uses some of them.
 #[derive(Clone, Debug, Default, PartialEq, Eq)]
@@ -9,7 +9,6 @@ pub struct Buffers {
     pub script: Vec<u8>,
     pub answers: Vec<u8>,
     pub sheet: Vec<u8>,
-    pub label: u16,
 }
 
 #[derive(Clone, Copy, Debug, PartialEq, Eq, PartialOrd, Ord)]

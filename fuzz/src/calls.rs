@@ -62,13 +62,19 @@ impl Call {
     }
 }
 
-/// Number, record and six values.
-pub type Answer = [u16; 8];
+/// Number, record, and the fields of the call's result in their order; then zeros.
+pub type Answer = [u32; 9];
+
+fn answer(fields: &[u32]) -> Answer {
+    let mut answer = [0; 9];
+    answer[..fields.len()].copy_from_slice(fields);
+    answer
+}
 
 /// The simulator's call.
 pub fn simulate(call: Call, lent: &mut Buffers) -> Answer {
-    let Buffers { itinerary, policy, table, script, answers, sheet, label } = lent;
-    let mut answer = match call {
+    let Buffers { itinerary, policy, table, script, answers, sheet } = lent;
+    let result = match call {
         Call::Validate => simulator::validate(itinerary),
         Call::Container(number) => simulator::container(itinerary, number),
         Call::Sheet => simulator::sheet(itinerary, table, sheet),
@@ -80,32 +86,31 @@ pub fn simulate(call: Call, lent: &mut Buffers) -> Answer {
         Call::Row(label) => simulator::row(table, u16::from(label)),
         Call::Screen => simulator::screen(itinerary, policy, script, answers),
     };
-    // The simulator's screen gives verdict and label in one value.
-    if call == Call::Screen && answer.number == 0 {
-        *label = answer.values[0] % 256;
-        answer.values[0] /= 256;
+    let (number, record) = (u32::from(result.number), u32::from(result.record));
+    let [v0, v1, v2, v3, v4, v5] = result.values.map(u32::from);
+    match call {
+        // The simulator's screen gives verdict and label in one value.
+        Call::Screen => answer(&[number, record, v0 / 256, v0 % 256, v1, v2, v3, v4, v5]),
+        _ => answer(&[number, record, v0, v1, v2, v3, v4, v5]),
     }
-    let [v0, v1, v2, v3, v4, v5] = answer.values;
-    [u16::from(answer.number), answer.record, v0, v1, v2, v3, v4, v5]
 }
 
-/// Pointer and length of each buffer named, then the other arguments.
+/// The entry, lent pointer and length of each buffer named and then the other arguments; its answer, by the fields
+/// named after number and record.
 macro_rules! enter {
-    ($entry:ident, $($buffer:expr),+ $(; $($number:expr),+)?) => {
-        enter!(@ $entry, [$($buffer),+], [$($($number),+)?])
-    };
+    ($entry:ident($($buffer:expr),+ $(; $($number:expr),+)?) -> $($field:ident),*) => {{
+        let result = enter!(@ $entry, [$($buffer),+], [$($($number),+)?]);
+        answer(&[result.number, result.record, $(result.$field),*])
+    }};
     (@ $entry:ident, [$a:expr], [$($n:expr),*]) => {
         unsafe { raw::$entry($a.start, $a.length, $($n),*) }
     };
     (@ $entry:ident, [$a:expr, $b:expr, $c:expr], []) => {
         unsafe { raw::$entry($a.start, $a.length, $b.start, $b.length, $c.start, $c.length) }
     };
-    (@ $entry:ident, [$a:expr, $b:expr, $c:expr, $d:expr], [$n:expr]) => {
+    (@ $entry:ident, [$a:expr, $b:expr, $c:expr, $d:expr], []) => {
         unsafe {
-            raw::$entry(
-                $a.start, $a.length, $b.start, $b.length,
-                $c.start, $c.length, $d.start, $d.length, $n,
-            )
+            raw::$entry($a.start, $a.length, $b.start, $b.length, $c.start, $c.length, $d.start, $d.length)
         }
     };
 }
@@ -114,19 +119,19 @@ macro_rules! enter {
 /// that the call doesn't write overlap, so that the caller's duties are kept.
 pub fn enter(call: Call, lent: &mut Rooms) -> Answer {
     let [it, policy, table, script, answers, sheet] = Buffer::ALL.map(|buffer| lent.part(buffer));
-    let r = match call {
-        Call::Validate => enter!(hub_validate, it),
-        Call::Container(number) => enter!(hub_container, it; number),
-        Call::Sheet => enter!(hub_sheet, it, table, sheet),
-        Call::Step(actor, partner) => enter!(hub_step, it; actor, partner),
-        Call::Run => enter!(hub_run, it, script, answers),
-        Call::Check => enter!(hub_check, it, policy, table),
-        Call::Make => enter!(hub_make, it, policy, table),
-        Call::Verdict => enter!(hub_verdict, it, policy, table),
-        Call::Row(label) => enter!(hub_row, table; label),
-        Call::Screen => enter!(hub_screen, it, policy, script, answers; lent.label()),
-    };
-    [r.number, r.at, r.v0, r.v1, r.v2, r.v3, r.v4, r.v5]
+    match call {
+        Call::Validate => enter!(hub_validate(it) -> records),
+        Call::Container(number) => enter!(hub_container(it; number) -> label),
+        Call::Sheet => enter!(hub_sheet(it, table, sheet) ->),
+        Call::Step(actor, partner) => enter!(hub_step(it; actor, partner) ->),
+        Call::Run => enter!(hub_run(it, script, answers) -> ins, outs, opens),
+        Call::Check => enter!(hub_check(it, policy, table) ->),
+        Call::Make => enter!(hub_make(it, policy, table) -> bits),
+        Call::Verdict => enter!(hub_verdict(it, policy, table) -> verdict, label),
+        Call::Row(label) => enter!(hub_row(table; label) -> offset, length),
+        Call::Screen => enter!(hub_screen(it, policy, script, answers)
+            -> verdict, label, bits, ins, outs, opens, records),
+    }
 }
 
 /// The same through the safe wrapper. Each slice is made for the one call.
@@ -135,7 +140,7 @@ pub fn enter_safely(call: Call, lent: &mut Rooms) -> Answer {
     let done = match call {
         Call::Validate => birnsket::validate(unsafe { it.shared() }).map(|count| vec![count]),
         Call::Container(number) => {
-            birnsket::container(unsafe { it.shared() }, number).map(|label| vec![u16::from(label)])
+            birnsket::container(unsafe { it.shared() }, number).map(|label| vec![u32::from(label)])
         }
         Call::Sheet => {
             unsafe { birnsket::sheet(it.shared(), table.shared(), sheet.unique()) }.map(|()| vec![])
@@ -147,48 +152,41 @@ pub fn enter_safely(call: Call, lent: &mut Rooms) -> Answer {
             unsafe { birnsket::check(it.shared(), policy.shared(), table.shared()) }.map(|()| vec![])
         }
         Call::Make => {
-            unsafe { birnsket::make(it.shared(), policy.shared(), table.unique()) }.map(|ones| vec![ones])
+            unsafe { birnsket::make(it.shared(), policy.shared(), table.unique()) }.map(|bits| vec![bits])
         }
         Call::Verdict => unsafe { birnsket::verdict(it.shared(), policy.shared(), table.shared()) }
-            .map(|v| vec![code(v).0, code(v).1]),
+            .map(|v| code(v).to_vec()),
         Call::Row(label) => Ok(part(unsafe { table.shared() }, label)),
         Call::Screen => {
             let (it, answers) = unsafe { (it.unique(), answers.unique()) };
-            birnsket::screen(it, unsafe { policy.shared() }, unsafe { script.shared() }, answers).map(
-                |screen| {
-                    unsafe { *lent.label() = code(screen.verdict).1 };
-                    shown(screen)
-                },
-            )
+            birnsket::screen(it, unsafe { policy.shared() }, unsafe { script.shared() }, answers).map(shown)
         }
     };
     packed(done)
 }
 
-fn code(verdict: Verdict) -> (u16, u16) {
+fn code(verdict: Verdict) -> [u32; 2] {
     match verdict {
-        Verdict::Exposed(label) => (1, u16::from(label)),
-        Verdict::Hinted(label) => (2, u16::from(label)),
-        Verdict::Sealed => (3, 0),
+        Verdict::Exposed(label) => [1, u32::from(label)],
+        Verdict::Hinted(label) => [2, u32::from(label)],
+        Verdict::Sealed => [3, 0],
     }
 }
 
 /// Offset and length of a label's part of the table.
-fn part(table: &[u8], label: u8) -> Vec<u16> {
+fn part(table: &[u8], label: u8) -> Vec<u32> {
     let row = birnsket::row(table, label);
-    vec![(row.as_ptr() as usize - table.as_ptr() as usize) as u16, row.len() as u16]
+    vec![(row.as_ptr() as usize - table.as_ptr() as usize) as u32, row.len() as u32]
 }
 
-fn shown(screen: birnsket::Screen) -> Vec<u16> {
-    let counts = screen.counts;
-    vec![code(screen.verdict).0, screen.ones, counts.ins, counts.outs, counts.opens, screen.left]
+fn shown(screen: birnsket::Screen) -> Vec<u32> {
+    let ([verdict, label], counts) = (code(screen.verdict), screen.counts);
+    vec![verdict, label, screen.bits, counts.ins, counts.outs, counts.opens, screen.records]
 }
 
-fn packed(done: Result<Vec<u16>, Refusal>) -> Answer {
-    let mut answer = [0; 8];
+fn packed(done: Result<Vec<u32>, Refusal>) -> Answer {
     match done {
-        Ok(values) => answer[2..2 + values.len()].copy_from_slice(&values),
-        Err(Refusal { number, record }) => answer[..2].copy_from_slice(&[number, record]),
+        Ok(values) => answer(&[&[0, 0], &values[..]].concat()),
+        Err(Refusal { number, record }) => answer(&[number, record]),
     }
-    answer
 }

@@ -151,7 +151,7 @@ impl Case {
             spoil(random, &mut bytes);
         }
         let sheet = vec![random.byte(); bytes.len()];
-        let mut buffers = Buffers { itinerary: bytes, policy, table, script, answers, sheet, label: 0 };
+        let mut buffers = Buffers { itinerary: bytes, policy, table, script, answers, sheet };
         if let Family::Long(buffer) = family {
             lengthen(random, buffer, &mut buffers);
         }

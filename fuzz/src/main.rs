@@ -29,8 +29,6 @@ impl Fuzzer {
         overlap: Option<Overlap>,
     ) -> Result<Answer, String> {
         let noise = self.random.next();
-        // No label is over 63, so that one not written is seen, and so is one written by a refusal.
-        lent.label = noise as u16 | 0x100;
         let mut expected = lent.clone();
         let wanted = simulate(call, &mut expected);
         self.rooms.load(lent, overlap, noise);

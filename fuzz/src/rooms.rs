@@ -65,12 +65,12 @@ struct Room {
 }
 
 impl Room {
-    fn new(lending: Lending, buffer: Option<Buffer>) -> Room {
+    fn new(lending: Lending, buffer: Buffer) -> Room {
         let memory = match lending.exact {
             true => Memory::Block(Box::default()),
             false => Memory::Pages(Pages::new(GUARD + SHIFTS + MOST + GUARD)),
         };
-        let lacks = lending.spoilt.filter(|(spoilt, _)| Some(*spoilt) == buffer).map(|(_, side)| side);
+        let lacks = lending.spoilt.filter(|(spoilt, _)| *spoilt == buffer).map(|(_, side)| side);
         Room { memory, start: 0, length: 0, guard: 0, lacks }
     }
 
@@ -130,17 +130,16 @@ impl Room {
     }
 }
 
-/// The rooms of all six buffers, and the label's.
+/// The rooms of all six buffers.
 pub struct Rooms {
     rooms: [Room; 6],
-    label: Room,
     overlap: Option<Overlap>,
 }
 
 impl Rooms {
     pub fn new(lending: Lending) -> Rooms {
-        let rooms = Buffer::ALL.map(|buffer| Room::new(lending, Some(buffer)));
-        Rooms { rooms, label: Room::new(lending, None), overlap: None }
+        let rooms = Buffer::ALL.map(|buffer| Room::new(lending, buffer));
+        Rooms { rooms, overlap: None }
     }
 
     /// Loads all rooms; `noise` decides places, shifts and guard bytes. The inner buffer of an overlap is lent as
@@ -155,9 +154,6 @@ impl Rooms {
         for (number, (room, buffer)) in self.rooms.iter_mut().zip(Buffer::ALL).enumerate() {
             room.load(buffers.get(buffer), place(number), guard);
         }
-        // The label is lent at an even address.
-        let place = if noise >> 54 & 1 == 0 { Place::First } else { Place::Last };
-        self.label.load(&buffers.label.to_le_bytes(), place, guard);
         self.overlap = overlap;
     }
 
@@ -171,20 +167,11 @@ impl Rooms {
         }
     }
 
-    pub fn label(&mut self) -> *mut u16 {
-        let label = self.label.part().start.cast::<u16>();
-        assert!(label.is_aligned());
-        label
-    }
-
     /// What is not as expected: contents, then guards.
     pub fn differences(&self, expected: &Buffers) -> Vec<String> {
         let mut found = Vec::new();
-        let label = expected.label.to_le_bytes();
-        let buffers = self.rooms.iter().zip(Buffer::ALL);
-        let buffers = buffers.map(|(room, buffer)| (room, buffer.name(), &expected.get(buffer)[..]));
-        for (room, name, wanted) in buffers.chain([(&self.label, "label", &label[..])]) {
-            let wanted = room.kept(wanted);
+        for (room, buffer) in self.rooms.iter().zip(Buffer::ALL) {
+            let (name, wanted) = (buffer.name(), room.kept(expected.get(buffer)));
             if room.content() != wanted {
                 found.push(format!("{name} is {}\n  not {}", hex(room.content()), hex(wanted)));
             }

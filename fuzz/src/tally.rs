@@ -8,7 +8,7 @@ use std::collections::BTreeMap;
 const ENOUGH: u64 = 200_000;
 
 /// The numbers that a call can answer beside 0 and, but for the row, 1 to 6.
-const OWN_NUMBERS: [(&str, &[u16]); 10] = [
+const OWN_NUMBERS: [(&str, &[u32]); 10] = [
     ("validate", &[]),
     ("container", &[]),
     ("sheet", &[8, 14]),
@@ -33,9 +33,9 @@ pub struct Tally {
     cases: usize,
     /// Calls that saw what makes the family, and those of them that were done.
     families: BTreeMap<Family, (u64, u64)>,
-    numbers: BTreeMap<(&'static str, u16), u64>,
+    numbers: BTreeMap<(&'static str, u32), u64>,
     steps: BTreeMap<u8, u64>,
-    verdicts: BTreeMap<(&'static str, u16), u64>,
+    verdicts: BTreeMap<(&'static str, u32), u64>,
 }
 
 impl Tally {
@@ -90,14 +90,14 @@ impl Tally {
     fn missing_answers(&self) -> Vec<String> {
         let mut missing = Vec::new();
         for (call, own) in OWN_NUMBERS {
-            let common: &[u16] = if call == "row" { &[0] } else { &[0, 1, 2, 3, 4, 5, 6] };
+            let common: &[u32] = if call == "row" { &[0] } else { &[0, 1, 2, 3, 4, 5, 6] };
             let numbers = common.iter().chain(own);
             let absent = numbers.filter(|&&number| !self.numbers.contains_key(&(call, number)));
             missing.extend(absent.map(|number| format!("{call} {number}")));
         }
         for call in ["verdict", "screen"] {
             let absent = (1..4).filter(|&code| !self.verdicts.contains_key(&(call, code)));
-            missing.extend(absent.map(|code| format!("{call} {}", VERDICTS[usize::from(code)])));
+            missing.extend(absent.map(|code| format!("{call} {}", VERDICTS[code as usize])));
         }
         let absent = [0, 10, 11, 12].into_iter().filter(|number| !self.steps.contains_key(number));
         missing.extend(absent.map(|number| format!("step {number} of a script")));
@@ -114,7 +114,7 @@ impl Tally {
             println!("{call} {number} {count}");
         }
         for ((call, code), count) in &self.verdicts {
-            println!("{call} {} {count}", VERDICTS[usize::from(*code)]);
+            println!("{call} {} {count}", VERDICTS[*code as usize]);
         }
         for (number, count) in &self.steps {
             println!("step of a script {number} {count}");
@@ -126,7 +126,7 @@ impl Tally {
 mod tests {
     use super::*;
 
-    const DONE: Answer = [0; 8];
+    const DONE: Answer = [0; 9];
 
     #[test]
     fn a_run_without_calls_misses_something() {

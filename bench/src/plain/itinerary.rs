@@ -41,7 +41,7 @@ pub fn records(itinerary: &[u8]) -> impl Iterator<Item = Record> + '_ {
 }
 
 /// The first of 2 to 5 that a record breaks.
-fn fault(itinerary: &[u8], bytes: &[u8]) -> Option<u16> {
+fn fault(itinerary: &[u8], bytes: &[u8]) -> Option<u32> {
     let record = Record::read(bytes);
     let spare = bytes[3] | bytes[6] | bytes[7];
     if record.kind == 0 {
@@ -90,21 +90,21 @@ fn climb(itinerary: &[u8], known: &mut [bool; 1025], number: u16) -> bool {
 }
 
 /// The number of records, or the first of refusals 1 to 6.
-pub fn validate(itinerary: &[u8]) -> Result<u16, Refusal> {
+pub fn validate(itinerary: &[u8]) -> Result<u32, Refusal> {
     if !itinerary.len().is_multiple_of(RECORD) || itinerary.len() > 8192 {
         return refuse(1);
     }
     for (place, bytes) in itinerary.chunks_exact(RECORD).enumerate() {
         if let Some(number) = fault(itinerary, bytes) {
-            return Err(Refusal { number, record: place as u16 + 1 });
+            return Err(Refusal { number, record: place as u32 + 1 });
         }
     }
     let count = (itinerary.len() / RECORD) as u16;
     let mut known = [false; 1025];
     known[0] = true;
     match (1..=count).find(|&number| !climb(itinerary, &mut known, number)) {
-        Some(record) => Err(Refusal { number: 6, record }),
-        None => Ok(count),
+        Some(record) => Err(Refusal { number: 6, record: u32::from(record) }),
+        None => Ok(u32::from(count)),
     }
 }
 

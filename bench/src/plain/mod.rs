@@ -14,6 +14,6 @@ pub use tables::{check, make, passes, verdict};
 use birnsket::Refusal;
 
 /// A refusal that names no record.
-fn refuse<T>(number: u16) -> Result<T, Refusal> {
+fn refuse<T>(number: u32) -> Result<T, Refusal> {
     Err(Refusal { number, record: 0 })
 }

@@ -82,7 +82,7 @@ fn act(itinerary: &mut [u8], actor: u16, partner: u16) -> Result<(), u8> {
 
 pub fn step(itinerary: &mut [u8], actor: u16, partner: u16) -> Result<(), Refusal> {
     validate(itinerary)?;
-    act(itinerary, actor, partner).or_else(|number| refuse(u16::from(number)))
+    act(itinerary, actor, partner).or_else(|number| refuse(u32::from(number)))
 }
 
 pub fn run(itinerary: &mut [u8], script: &[u8], answers: &mut [u8]) -> Result<Counts, Refusal> {

@@ -138,7 +138,7 @@ pub fn check(itinerary: &[u8], policy: &[u8], table: &[u8]) -> Result<(), Refusa
     accept(itinerary, policy, table).map(|_| ())
 }
 
-pub fn make(itinerary: &[u8], policy: &[u8], table: &mut [u8]) -> Result<u16, Refusal> {
+pub fn make(itinerary: &[u8], policy: &[u8], table: &mut [u8]) -> Result<u32, Refusal> {
     validate(itinerary)?;
     if !is_policy(policy) {
         return refuse(7);
@@ -149,7 +149,7 @@ pub fn make(itinerary: &[u8], policy: &[u8], table: &mut [u8]) -> Result<u16, Re
     let mut least = Table::base(itinerary, policy);
     least.close(&least.partners(itinerary));
     least.write(table);
-    Ok(least.count() as u16)
+    Ok(least.count())
 }
 
 /// How many passes the maker needs.
