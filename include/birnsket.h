@@ -368,9 +368,9 @@ HubVerdictResult hub_verdict(const uint8_t *itinerary, size_t itinerary_length,
 
 /*
  * The row of a label in I, as a part of the table that was passed.
- * Done: the row is the `length` bytes from table + `offset`: 16 bytes from 16 *
- * label; 0 and 0, the empty part, for a label over 63 or a table that is not
- * 1,544 bytes.
+ * Done: the row is the `length` bytes from table + `offset`: 16 bytes from
+ * 16 * label; 0 and 0, the empty part, for a label over 63 or a table that is
+ * not 1,544 bytes.
  * Never refuses: `number` and `record` are 0. (It looks at the length alone;
  * that no byte is read is seen in the source.)
  */
