@@ -26,7 +26,7 @@
  *    of the call, and nobody else reads one passed without `const`.
  *  - The stack has room: allow 128 KiB (HUB_STACK) below the caller. The depth
  *    is measured, not proved: docs/BENCHMARKS.md has the deepest found of each
- *    call, the most about 82 KiB, over chains and rings of 1,024 records.
+ *    call, the most about 81 KiB, over chains and rings of 1,024 records.
  *
  * Apart from that any bytes of any length are fine: what is not as it should
  * be is refused.
