@@ -1,3 +1,2 @@
--- What the screen's answer makes of the text; and that what the program lends gives the text that the files ask for.
-pub mod Laws
+-- What the program lends of its files.
 pub mod Lent

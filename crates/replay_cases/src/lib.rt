@@ -1,12 +1,8 @@
-// Stored cases: the memory that their buffers stand in, and reading a file of them up to its next call. The calls are
-// made by the programs. (The format of a file is in simulator/README.md.)
+// Stored cases: reading a file of them up to its next call, which the program makes. (The format of a file is in
+// simulator/README.md.)
+use replay_buffers::Room;
 use replay_compare::Result;
 use replay_compare::Tally;
-ghost use mathlib.Core.List.{[], _∷_};
-ghost use mathlib.Core.Path.{_≡_};
-ghost use lib.ListN.{length, replicate};
-ghost use Rattle.replay_compare.specs.Comparing.{over};
-ghost use Rattle.replay_cases.specs.Storing.{bytesAt, bytesOf, emptyRoom, number, raised, stored, turned};
 
 // What a case may be instead of a call: the end of the file, no case at all, or a command that only prepares the next.
 pub const END: u8 = 0;
@@ -19,13 +15,6 @@ const CALLS: u8 = 16;
 // More than any number of 32 bits.
 const NONE: usize = 4294967296;
 
-// A buffer's place in the memory: where it starts, how many bytes it may have, and how many it has.
-pub struct Room {
-    pub start: usize,
-    pub size: usize,
-    pub len: usize,
-}
-
 // A call with its arguments and what is wanted of it, and the rooms of the buffers by their numbers.
 pub struct Case {
     pub call: u8,
@@ -33,17 +22,6 @@ pub struct Case {
     pub y: u16,
     pub want: Result,
     pub rooms: [Room; 16],
-}
-
-// A room with no bytes in it yet.
-pub fn empty_room(start: usize, size: usize) -> Room
-    ensures { λ r. ⌜ r ≡ emptyRoom start size ⌝ }
-{
-    Room {
-        start,
-        size,
-        len: 0,
-    }
 }
 
 // A room that has more than it may have is none.
@@ -63,78 +41,6 @@ fn with_len(room: Room, len: usize) -> Room {
     }
 }
 
-// The n bytes from `at` on, or as many as there are.
-pub fn place<'a>(s: &'a [u8], at: usize, n: usize) -> &'a [u8]
-    ensures { λ r. ⌜ now r ≡ bytesAt at n (now (s .entry)) ⌝ }
-{
-    let m = s.len();
-    if m < at {
-        return &s[m..];
-    }
-    if m - at < n {
-        return &s[at..];
-    }
-    &s[at..at + n]
-}
-
-// The same of a buffer that is lent to change.
-pub fn place_mut<'a>(s: &'a mut [u8], at: usize, n: usize) -> &'a mut [u8]
-    ensures { λ r. ⌜ now r ≡ bytesAt at n (now (s .entry)) ⌝ }
-{
-    let m = s.len();
-    if m < at {
-        return &mut s[m..];
-    }
-    if m - at < n {
-        return &mut s[at..];
-    }
-    &mut s[at..at + n]
-}
-
-// The bytes that a buffer has.
-pub fn lent<'a>(memory: &'a [u8], room: Room) -> &'a [u8]
-    ensures { λ r. ⌜ now r ≡ bytesOf room (now (memory .entry)) ⌝ }
-{
-    place(memory, room.start, room.len)
-}
-
-pub fn lent_mut<'a>(memory: &'a mut [u8], room: Room) -> &'a mut [u8]
-    ensures { λ r. ⌜ now r ≡ bytesOf room (now (memory .entry)) ⌝ }
-{
-    place_mut(memory, room.start, room.len)
-}
-
-// Copies a buffer's bytes, as many as fit.
-pub fn load(memory: &[u8], room: Room, copy: &mut [u8])
-    ensures { λ _. ⌜ now (copy .exit) ≡ over (bytesOf room (now (memory .entry))) (now (copy .entry)) ⌝ }
-{
-    replay_compare::copy(lent(memory, room), copy);
-}
-
-// Copies them back.
-pub fn store(copy: &[u8], room: Room, memory: &mut [u8])
-    ensures { λ _. ⌜ now (memory .exit) ≡ stored room (now (copy .entry)) (now (memory .entry)) ⌝ }
-{
-    let start = room.start;
-    if memory.len() < start {
-        return;
-    }
-    replay_compare::copy(replay_compare::part(copy, room.len), &mut memory[start..]);
-}
-
-// Numbers, the low byte first.
-fn half(a: u8, b: u8) -> u16
-    ensures { λ r. ⌜ r ≡ number (a ∷ b ∷ []) ⌝ }
-{
-    (a as u16) + 256 * (b as u16)
-}
-
-fn word(a: u8, b: u8, c: u8, d: u8) -> u32
-    ensures { λ r. ⌜ r ≡ number (a ∷ b ∷ c ∷ d ∷ []) ⌝ }
-{
-    (a as u32) + 256 * ((b as u32) + 256 * ((c as u32) + 256 * (d as u32)))
-}
-
 // Whether the file has enough bytes to fill the buffer, which it does.
 fn whole(fd: i32, buffer: &mut [u8]) -> bool {
     io::read_full(fd, buffer) == buffer.len()
@@ -144,7 +50,7 @@ fn whole(fd: i32, buffer: &mut [u8]) -> bool {
 fn next_number(fd: i32) -> usize {
     let mut four = [0u8; 4];
     if whole(fd, &mut four) {
-        return word(four[0], four[1], four[2], four[3]) as usize;
+        return replay_buffers::word(four[0], four[1], four[2], four[3]) as usize;
     }
     NONE
 }
@@ -164,7 +70,7 @@ fn next_head(fd: i32) -> Head {
         return Head {
             code: b[0],
             small: b[1],
-            number: word(b[2], b[3], b[4], b[5]),
+            number: replay_buffers::word(b[2], b[3], b[4], b[5]),
         };
     }
     Head {
@@ -180,22 +86,14 @@ fn set(fd: i32, room: Room, n: usize, held: &mut [u8], wants: &mut [u8]) -> Room
     if room.size < n {
         return no_room();
     }
-    if !whole(fd, place_mut(held, start, n)) {
+    if !whole(fd, replay_buffers::place_mut(held, start, n)) {
         return no_room();
     }
-    replay_compare::copy(place(held, start, n), place_mut(wants, start, n));
+    replay_compare::copy(
+        replay_buffers::place(held, start, n),
+        replay_buffers::place_mut(wants, start, n),
+    );
     with_len(room, n)
-}
-
-// Sets all bytes to zero.
-fn clear(buffer: &mut [u8])
-    ensures { λ _. ⌜ now (buffer .exit) ≡ replicate (length (now (buffer .entry))) 0 ⌝ }
-{
-    let mut i: usize = 0;
-    while i < buffer.len() {
-        buffer[i] = 0;
-        i += 1;
-    }
 }
 
 // Sets a buffer and its shadow to n zeros.
@@ -203,37 +101,19 @@ fn set_zeros(room: Room, n: usize, held: &mut [u8], wants: &mut [u8]) -> Room {
     if room.size < n {
         return no_room();
     }
-    clear(place_mut(held, room.start, n));
-    clear(place_mut(wants, room.start, n));
+    replay_buffers::clear(replay_buffers::place_mut(held, room.start, n));
+    replay_buffers::clear(replay_buffers::place_mut(wants, room.start, n));
     with_len(room, n)
-}
-
-// Turns bit k, where there is one.
-fn turn(buffer: &mut [u8], k: usize)
-    ensures { λ _. ⌜ now (buffer .exit) ≡ turned k (now (buffer .entry)) ⌝ }
-{
-    if k / 8 < buffer.len() {
-        buffer[k / 8] = buffer[k / 8] ^ (1u8 << (k % 8));
-    }
-}
-
-// Sets bit k, where there is one.
-fn raise(buffer: &mut [u8], k: usize)
-    ensures { λ _. ⌜ now (buffer .exit) ≡ raised k (now (buffer .entry)) ⌝ }
-{
-    if k / 8 < buffer.len() {
-        buffer[k / 8] |= 1u8 << (k % 8);
-    }
 }
 
 // Turns bit k of a buffer and of its shadow, or, where it is only wanted, sets it in the shadow.
 fn bit(wanted: bool, room: Room, k: usize, held: &mut [u8], wants: &mut [u8]) {
     if wanted {
-        raise(lent_mut(wants, room), k);
+        replay_buffers::raise(replay_buffers::lent_mut(wants, room), k);
         return;
     }
-    turn(lent_mut(held, room), k);
-    turn(lent_mut(wants, room), k);
+    replay_buffers::turn(replay_buffers::lent_mut(held, room), k);
+    replay_buffers::turn(replay_buffers::lent_mut(wants, room), k);
 }
 
 // The bits that the file lists, n of them.
@@ -253,8 +133,8 @@ fn bits(fd: i32, wanted: bool, room: Room, n: usize, held: &mut [u8], wants: &mu
 // Overwrites n bytes of a shadow, from the offset on that the file gives first.
 fn want_bytes(fd: i32, room: Room, n: usize, wants: &mut [u8]) -> Room {
     let at = next_number(fd);
-    let shadow = lent_mut(wants, room);
-    let part = place_mut(shadow, at, n);
+    let shadow = replay_buffers::lent_mut(wants, room);
+    let part = replay_buffers::place_mut(shadow, at, n);
     if part.len() != n {
         return no_room();
     }
@@ -279,7 +159,7 @@ fn prepared(fd: i32, op: u8, room: Room, n: usize, held: &mut [u8], wants: &mut 
         return want_bytes(fd, room, n, wants);
     }
     if op == 7 {
-        clear(lent_mut(wants, room));
+        replay_buffers::clear(replay_buffers::lent_mut(wants, room));
         return room;
     }
     no_room()
@@ -302,14 +182,14 @@ fn value(b: [u8; 27], k: usize) -> u32 {
         return 0;
     }
     let at = 3 + 4 * k;
-    word(b[at], b[at + 1], b[at + 2], b[at + 3])
+    replay_buffers::word(b[at], b[at + 1], b[at + 2], b[at + 3])
 }
 
 // An answer as a file has it: number, record, values.
 fn answer_of(b: [u8; 27]) -> Result {
     Result {
         number: b[0],
-        at: half(b[1], b[2]),
+        at: replay_buffers::half(b[1], b[2]),
         v0: value(b, 0),
         v1: value(b, 1),
         v2: value(b, 2),
@@ -408,10 +288,10 @@ fn count(n: u32) {
     io::print_decimal(1, n as u64);
 }
 
-// What a replay came to: the tally, and whether the file had cases up to its end.
+// What a replay came to: the tally, and whether what followed in the file was no case.
 pub struct Ended {
     pub tally: Tally,
-    pub good: bool,
+    pub fault: bool,
 }
 
 // Closes the file and writes a line with its name, the calls made and those that differ.
@@ -424,7 +304,7 @@ pub fn finish(fd: i32, name: &[u8], e: Ended) {
     io::write_all(1, b" calls, ");
     count(t.differ);
     io::write_all(1, b" differ");
-    if !e.good {
+    if e.fault {
         io::write_all(1, b", and then no case");
     }
     io::write_all(1, b"\n");

@@ -18,13 +18,6 @@ use Rattle.replay_compare.specs.declared.Tally.{Tally}
 
 -- f is what fits of from, copied to the start of to
 module _ (from to f : List ℕ) (e : f ≡ take (length to) from) where
-  pub fits : length f ≤ length to
-  fits = go (decLe (length from) (length to))
-    where
-      go : Dec (length from ≤ length to) → length f ≤ length to
-      go (yes l) = omega (arith, ap length (e ∙ take-all (length to) from l))
-      go (no n) = omega (arith, ap length e, length-take-le (length to) from (omega arith))
-
   pub over-is : take (length f) f ++ drop (length f) to ≡ over from to
   unfolding over
   over-is = ap₂ (λ (x y : List ℕ). x ++ y) (take-all (length f) f (omega arith) ∙ e) (rest (decLe (length from) (length to)))

@@ -1,24 +1,11 @@
--- What the inner contracts cite: the number of a reading, and climbs that stop at records known to reach the environment.
+-- What the inner contracts cite: climbs that stop at records known to reach the environment.
 use Prim.Native.Nat.{_%_, _<_, _≤_, ℕ}
 use lib.ListN.{getD, length}
-use mathlib.Core.Bool.{Bool, _&&_, true}
+use mathlib.Core.Bool.{true}
 use mathlib.Core.List.{List}
 use mathlib.Core.Path.{_≡_}
 use Rattle.model.specs.Climbing.{reaches, reaching, viewFrom}
 use Rattle.model.specs.Records.{count, parentOf, records}
-use Rattle.model.specs.Validity.{goneRight, kindRight, spareRight}
-use Rattle.model.specs.declared.Reading.{Reading}
-use Rattle.model.specs.declared.Reading.the-variants.{Record, Refused}
-use Rattle.model.specs.declared.Rec.{Rec}
-
--- the number of a reading's refusal, 0 where it is a record
-unfoldable pub readingNumber : Reading → ℕ
-readingNumber (Record r) = 0
-readingNumber (Refused k) = k
-
--- refusal 2 does not apply to record i, which is r
-unfoldable pub formRight : List ℕ → ℕ → Rec → Bool
-formRight s i r = kindRight r && (spareRight s i && goneRight r)
 
 -- whole records, not too many, whose parents are within the count
 pub record Parented (s : List ℕ) : Type 0 where

@@ -3,7 +3,7 @@ use borrow.Author.Needs.{needs}
 use lib.Seq.{length-take-le}
 use mathlib.Core.Path.{sym}
 use native.Mathlib.Omega.{arith}
-use Rattle.hubscreen.specs.Laws.{text-sized}
+use Rattle.screen_text.specs.Laws.{text-sized}
 use Rattle.hubscreen.specs.Lent.{answers-few}
 use Rattle.listing.specs.Short.{shown-fits}
 use Rattle.hubscreen.proofs.main.Statement.{statement}
@@ -61,19 +61,39 @@ slice-aggregate-screen-text-3 : tie.Need-slice-aggregate-screen-text-3
 slice-aggregate-screen-text-3 c = search needs
 
 array-borrow-prefix-answers : tie.Need-array-borrow-prefix-answers
-array-borrow-prefix-answers c = omega (arith, c .before .before .before .answers-for .ensures, answers-few (c .before .before .before .before .before .load .result .more) (c .before .before .before .before .before .load .result .len), c .before .before .before .before .before .load .ensures .counts .0, c .before .before .before .before .before .load .kept .1 .0)
+array-borrow-prefix-answers c =
+    let counted = c .before .before .before in
+    let loaded = counted .before .before .load in
+    omega (arith, counted .answers-for .ensures, answers-few (loaded .result .more) (loaded .result .len), loaded .ensures .counts .0, loaded .kept .1 .0)
 
 slice-aggregate-screen-text-4 : tie.Need-slice-aggregate-screen-text-4
-slice-aggregate-screen-text-4 c = sym (length-take-le _ _ (omega (arith, c .before .before .before .before .answers-for .ensures, answers-few (c .before .before .before .before .before .before .load .result .more) (c .before .before .before .before .before .before .load .result .len), c .before .before .before .before .before .before .load .ensures .counts .0, c .before .before .before .before .before .before .load .kept .1 .0)))
+slice-aggregate-screen-text-4 c =
+    let counted = c .before .before .before .before in
+    let loaded = counted .before .before .load in
+    sym (length-take-le _ _ (omega (arith, counted .answers-for .ensures, answers-few (loaded .result .more) (loaded .result .len), loaded .ensures .counts .0, loaded .kept .1 .0)))
 
 screen-text-requires : tie.Need-screen-text-requires
 screen-text-requires c κs = search needs
 
 slice-aggregate-first : tie.Need-slice-aggregate-first
-slice-aggregate-first c = text-sized _ _ _ _ _ (c .before .before .before .screen-text .ensures .1) (c .before .before .before .before .before .before .before .before .before .before .before .before .before .before .before .before .before .before .before .before .before .before .room .ensures)
+slice-aggregate-first c =
+    let filled = c .before .before .before in
+    let counted = filled .before .before .before .before .before .before in
+    let script = counted .before .before in
+    let policy = script .before .before .before .before in
+    let itinerary = policy .before .before .before .before in
+    let made = itinerary .before .before .before in
+    text-sized _ _ _ _ _ (filled .screen-text .ensures .1) (made .room .ensures)
 
 first-requires : tie.Need-first-requires
-first-requires c κs = omega (arith, shown-fits _ _ _ _ (c .before .before .before .screen-text .ensures .0), text-sized _ _ _ _ _ (c .before .before .before .screen-text .ensures .1) (c .before .before .before .before .before .before .before .before .before .before .before .before .before .before .before .before .before .before .before .before .before .before .room .ensures))
+first-requires c κs =
+    let filled = c .before .before .before in
+    let counted = filled .before .before .before .before .before .before in
+    let script = counted .before .before in
+    let policy = script .before .before .before .before in
+    let itinerary = policy .before .before .before .before in
+    let made = itinerary .before .before .before in
+    omega (arith, shown-fits _ _ _ _ (filled .screen-text .ensures .0), text-sized _ _ _ _ _ (filled .screen-text .ensures .1) (made .room .ensures))
 
 returns : tie.Need-returns
 returns c = search needs

@@ -7,22 +7,46 @@ use Rattle.listing.proofs.put_counts.Statement.{statement}
 use Rattle.listing.proofs.put_counts.Tie as tie
 
 put-field-requires : tie.Need-put-field-requires
-put-field-requires c κs = omega (arith, c .before .before .before .pre, field-few (c .before .before .before .args .s .counts .ins), field-few (c .before .before .before .args .s .counts .outs))
+put-field-requires c κs =
+    let start = c .before .before .before in
+    let s = start .args .s in
+    omega (arith, start .pre, field-few (s .counts .ins), field-few (s .counts .outs))
 
 put-field-requires-2 : tie.Need-put-field-requires-2
-put-field-requires-2 c κs = omega (arith, c .before .before .before .before .before .before .before .pre, field-few (c .before .before .before .before .before .before .before .args .s .counts .ins), field-few (c .before .before .before .before .before .before .before .args .s .counts .outs), c .before .before .before .put-field .ensures .end, c .before .before .before .put-field .kept .0)
+put-field-requires-2 c κs =
+    let ins = c .before .before .before in
+    let start = ins .before .before .before .before in
+    let s = start .args .s in
+    omega (arith, start .pre, field-few (s .counts .ins), field-few (s .counts .outs), ins .put-field .ensures .end, ins .put-field .kept .0)
 
 put-field-requires-3 : tie.Need-put-field-requires-3
-put-field-requires-3 c κs = omega (arith, c .before .before .before .before .before .before .before .before .before .before .before .pre, field-few (c .before .before .before .before .before .before .before .before .before .before .before .args .s .counts .ins), field-few (c .before .before .before .before .before .before .before .before .before .before .before .args .s .counts .outs), field-few (c .before .before .before .before .before .before .before .before .before .before .before .args .s .counts .opens), c .before .before .before .before .before .before .before .put-field .ensures .end, c .before .before .before .before .before .before .before .put-field .kept .0, c .before .before .before .put-field2 .ensures .end, c .before .before .before .put-field2 .kept .0)
+put-field-requires-3 c κs =
+    let outs = c .before .before .before in
+    let ins = outs .before .before .before .before in
+    let start = ins .before .before .before .before in
+    let s = start .args .s in
+    omega (arith, start .pre, field-few (s .counts .ins), field-few (s .counts .outs), field-few (s .counts .opens), ins .put-field .ensures .end, ins .put-field .kept .0, outs .put-field2 .ensures .end, outs .put-field2 .kept .0)
 
 put-last-requires : tie.Need-put-last-requires
-put-last-requires c κs = omega (arith, c .before .before .before .before .before .before .before .before .before .before .before .before .before .before .before .pre, field-few (c .before .before .before .before .before .before .before .before .before .before .before .before .before .before .before .args .s .counts .ins), field-few (c .before .before .before .before .before .before .before .before .before .before .before .before .before .before .before .args .s .counts .outs), field-few (c .before .before .before .before .before .before .before .before .before .before .before .before .before .before .before .args .s .counts .opens), last-few (c .before .before .before .before .before .before .before .before .before .before .before .before .before .before .before .args .s .left), c .before .before .before .before .before .before .before .before .before .before .before .put-field .ensures .end, c .before .before .before .before .before .before .before .before .before .before .before .put-field .kept .0, c .before .before .before .before .before .before .before .put-field2 .ensures .end, c .before .before .before .before .before .before .before .put-field2 .kept .0, c .before .before .before .put-field3 .ensures .end, c .before .before .before .put-field3 .kept .0)
+put-last-requires c κs =
+    let opens = c .before .before .before in
+    let outs = opens .before .before .before .before in
+    let ins = outs .before .before .before .before in
+    let start = ins .before .before .before .before in
+    let s = start .args .s in
+    omega (arith, start .pre, field-few (s .counts .ins), field-few (s .counts .outs), field-few (s .counts .opens), last-few (s .left), ins .put-field .ensures .end, ins .put-field .kept .0, outs .put-field2 .ensures .end, outs .put-field2 .kept .0, opens .put-field3 .ensures .end, opens .put-field3 .kept .0)
 
 same-length : tie.Need-same-length
 same-length c = search needs
 
 returns : tie.Need-returns
-returns c = counts-put _ (c .before .before .before .before .before .before .before .before .before .before .before .before .before .before .before .before .before .before .pre) (c .before .before .before .before .before .before .before .before .before .before .before .before .before .before .put-field .ensures) (c .before .before .before .before .before .before .before .before .before .before .put-field2 .ensures) (c .before .before .before .before .before .before .put-field3 .ensures) (c .before .before .put-last .ensures)
+returns c =
+    let left = c .before .before in
+    let opens = left .before .before .before .before in
+    let outs = opens .before .before .before .before in
+    let ins = outs .before .before .before .before in
+    let start = ins .before .before .before .before in
+    counts-put _ (start .pre) (ins .put-field .ensures) (outs .put-field2 .ensures) (opens .put-field3 .ensures) (left .put-last .ensures)
 
 pub put-counts-spec : {M : Type 1} → statement M
 put-counts-spec =

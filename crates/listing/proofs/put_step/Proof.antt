@@ -6,19 +6,36 @@ use Rattle.listing.proofs.put_step.Statement.{statement}
 use Rattle.listing.proofs.put_step.Tie as tie
 
 put-field-requires : tie.Need-put-field-requires
-put-field-requires c κs = omega (arith, c .before .before .pre, step-length (c .before .before .args .actor) (c .before .before .args .partner) (c .before .before .args .answer))
+put-field-requires c κs =
+    let start = c .before .before in
+    let a = start .args in
+    omega (arith, start .pre, step-length (a .actor) (a .partner) (a .answer))
 
 put-field-requires-2 : tie.Need-put-field-requires-2
-put-field-requires-2 c κs = omega (arith, c .before .before .before .before .before .before .pre, step-length (c .before .before .before .before .before .before .args .actor) (c .before .before .before .before .before .before .args .partner) (c .before .before .before .before .before .before .args .answer), c .before .before .before .put-field .ensures .end, c .before .before .before .put-field .kept .0)
+put-field-requires-2 c κs =
+    let first = c .before .before .before in
+    let start = first .before .before .before in
+    let a = start .args in
+    omega (arith, start .pre, step-length (a .actor) (a .partner) (a .answer), first .put-field .ensures .end, first .put-field .kept .0)
 
 put-last-requires : tie.Need-put-last-requires
-put-last-requires c κs = omega (arith, c .before .before .before .before .before .before .before .before .before .before .pre, step-length (c .before .before .before .before .before .before .before .before .before .before .args .actor) (c .before .before .before .before .before .before .before .before .before .before .args .partner) (c .before .before .before .before .before .before .before .before .before .before .args .answer), c .before .before .before .before .before .before .before .put-field .ensures .end, c .before .before .before .before .before .before .before .put-field .kept .0, c .before .before .before .put-field2 .ensures .end, c .before .before .before .put-field2 .kept .0)
+put-last-requires c κs =
+    let second = c .before .before .before in
+    let first = second .before .before .before .before in
+    let start = first .before .before .before in
+    let a = start .args in
+    omega (arith, start .pre, step-length (a .actor) (a .partner) (a .answer), first .put-field .ensures .end, first .put-field .kept .0, second .put-field2 .ensures .end, second .put-field2 .kept .0)
 
 same-length : tie.Need-same-length
 same-length c = search needs
 
 returns : tie.Need-returns
-returns c = step-put _ _ _ (c .before .before .before .before .before .before .before .before .before .before .before .before .before .pre) (c .before .before .before .before .before .before .before .before .before .before .put-field .ensures) (c .before .before .before .before .before .before .put-field2 .ensures) (c .before .before .put-last .ensures)
+returns c =
+    let third = c .before .before in
+    let second = third .before .before .before .before in
+    let first = second .before .before .before .before in
+    let start = first .before .before .before in
+    step-put _ _ _ (start .pre) (first .put-field .ensures) (second .put-field2 .ensures) (third .put-last .ensures)
 
 pub put-step-spec : {M : Type 1} → statement M
 put-step-spec =

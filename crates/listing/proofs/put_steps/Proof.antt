@@ -1,4 +1,5 @@
 -- `listing::put_steps` meets its contract. The loop's invariant: with the lines of the steps from k on put at the end, the text
+-- is what all lines make of it. What falls is the number of steps not yet shown.
 use Prim.Native.Nat.{_-_, _≤_}
 use borrow.Author.Needs.{needs}
 use lib.ListN.{length}
@@ -13,8 +14,6 @@ use Rattle.text_put.specs.Puts.{Putting}
 use Rattle.scripts.specs.Runs.{Script, script-of}
 use Rattle.listing.proofs.put_steps.Statement.{statement}
 use Rattle.listing.proofs.put_steps.Tie as tie
-
--- is what all lines make of it. What falls is the number of steps not yet shown.
 
 abbrev Inv-loop : tie.InvT-loop
 Inv-loop text₀ at script answers n end₀ k₀ text end k = (k ≤ n) × (n ≡ length answers) × Script script (length answers) × Putting text₀ at (stepLines (stepsIn script) answers []) text end (ahead script answers k)
@@ -60,8 +59,10 @@ shared-slice-read-put-step c = omega arith
 
 put-step-requires : tie.Need-put-step-requires Inv-loop μ-loop
 put-step-requires c κs =
-    let inv = c .before .before .before .before .before .before .before .before .before .loop .inv in
-    ahead-room _ _ (inv .2) _ (inv .3) (omega arith) _ _ (c .before .before .before .before .before .word .ensures) (c .before .before .word2 .ensures)
+    let partner = c .before .before in
+    let actor = partner .before .before .before in
+    let inv = actor .before .before .before .before .loop .inv in
+    ahead-room _ _ (inv .2) _ (inv .3) (omega arith) _ _ (actor .word .ensures) (partner .word2 .ensures)
 
 add-k : tie.Need-add-k Inv-loop μ-loop
 add-k c = omega arith
@@ -71,11 +72,14 @@ loop-less c = omega arith
 
 loop-again : tie.Need-loop-again Inv-loop μ-loop
 loop-again c =
-    let inv = c .before .before .before .before .before .before .before .before .before .before .before .before .loop .inv in (
+    let put = c .before .before in
+    let partner = put .before .before .before in
+    let actor = partner .before .before .before in
+    let inv = actor .before .before .before .before .loop .inv in (
       omega arith,
       inv .1,
       inv .2,
-      putting-on (inv .3) (ahead-on _ _ (inv .2) _ (omega arith) _ _ (c .before .before .before .before .before .before .before .before .word .ensures) (c .before .before .before .before .before .word2 .ensures)) (c .before .before .put-step .kept .0) (c .before .before .put-step .ensures),
+      putting-on (inv .3) (ahead-on _ _ (inv .2) _ (omega arith) _ _ (actor .word .ensures) (partner .word2 .ensures)) (put .put-step .kept .0) (put .put-step .ensures),
     )
 
 same-length : tie.Need-same-length Inv-loop μ-loop

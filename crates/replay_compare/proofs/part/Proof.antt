@@ -8,7 +8,7 @@ use Rattle.replay_compare.proofs.part.Statement.{statement}
 use Rattle.replay_compare.proofs.part.Tie as tie
 
 returns : tie.Need-returns
-returns c = let l = c .before .args .n in sym (take-all (c .before .args .n) (c .before .args .s .now) (omega arith))
+returns c = sym (take-all (c .before .args .n) (c .before .args .s .now) (omega arith))
 
 slice-aggregate-result : tie.Need-slice-aggregate-result
 slice-aggregate-result c = sym (length-take-le _ _ (omega arith))

@@ -45,7 +45,10 @@ climb-slice-read-if1 : (t : ℕ) → climb-lts.Need-slice-read-if1 (
   climb-below t,
   climb.Post,
 ) (climb-at t) climb.Post
-climb-slice-read-if1 t c = omega (arith, parent-inside (c .before .before .before .before .pre .1 .0 .parented) _ (c .before .before .before .before .pre .1 .1 .inside) (omega (arith, c .before .before .before .before .pre .1 .2)) _ (c .before .parent-of .ensures), c .before .before .before .before .pre .1 .0 .room)
+climb-slice-read-if1 t c =
+    let read = c .before in
+    let pre = read .before .before .before .pre .1 in
+    omega (arith, parent-inside (pre .0 .parented) _ (pre .1 .inside) (omega (arith, pre .2)) _ (read .parent-of .ensures), pre .0 .room)
 
 climb-slice-write-known : (t : ℕ) → climb-lts.Need-slice-write-known (
   parent-of-reads.Asked,
@@ -53,7 +56,7 @@ climb-slice-write-known : (t : ℕ) → climb-lts.Need-slice-write-known (
   climb-below t,
   climb.Post,
 ) (climb-at t) climb.Post
-climb-slice-write-known t c = omega (arith, c .before .before .before .before .before .pre .1 .0 .room, c .before .before .before .before .before .pre .1 .1 .inside)
+climb-slice-write-known t c = let pre = c .before .before .before .before .before .pre .1 in omega (arith, pre .0 .room, pre .1 .inside)
 
 climb-same-length : (t : ℕ) → climb-lts.Need-same-length (
   parent-of-reads.Asked,
@@ -70,9 +73,10 @@ climb-returns : (t : ℕ) → climb-lts.Need-returns (
   climb.Post,
 ) (climb-at t) climb.Post
 climb-returns t c =
-    let w = c .before .before .before .before .before .pre .1 .0 in
-    let h = sym (w .marks .reach _ (c .if1 .taken)) ∙ reach-above (c .before .before .before .before .before .pre .1 .0 .parented) _ (c .before .before .before .before .before .pre .1 .1 .inside) (omega (arith, c .before .before .before .before .before .pre .1 .2)) _ (c .before .before .parent-of .ensures) in
-    (h, known-more _ (w .marks) (sym h))
+    let read = c .before .before in
+    let pre = read .before .before .before .pre .1 in
+    let h = sym (pre .0 .marks .reach _ (c .if1 .taken)) ∙ reach-above (pre .0 .parented) _ (pre .1 .inside) (omega (arith, pre .2)) _ (read .parent-of .ensures) in
+    (h, known-more _ (pre .0 .marks) (sym h))
 
 climb-returns-2 : (t : ℕ) → climb-lts.Need-returns-2 (
   parent-of-reads.Asked,
@@ -80,7 +84,9 @@ climb-returns-2 : (t : ℕ) → climb-lts.Need-returns-2 (
   climb-below t,
   climb.Post,
 ) (climb-at t) climb.Post
-climb-returns-2 t c = (sym (reach-none (c .before .before .before .before .before .before .pre .1 .1) (omega (arith, c .before .before .before .before .before .before .pre .1 .2)) (c .if2 .taken)), c .before .before .before .before .before .before .pre .1 .0 .marks)
+climb-returns-2 t c =
+    let pre = c .before .before .before .before .before .before .pre .1 in
+    (sym (reach-none (pre .1) (omega (arith, pre .2)) (c .if2 .taken)), pre .0 .marks)
 
 climb-sub-climb : (t : ℕ) → climb-lts.Need-sub-climb (
   parent-of-reads.Asked,
@@ -97,8 +103,10 @@ climb-climb-requires : (t : ℕ) → climb-lts.Need-climb-requires (
   climb.Post,
 ) (climb-at t) climb.Post
 climb-climb-requires t c κs =
-    let w = c .before .before .before .before .before .before .before .pre in
-    (omega (arith, w .0), (w .1 .0, enough-above (c .before .before .before .before .before .before .before .pre .1 .0 .parented) _ (c .before .before .before .before .before .before .before .pre .1 .1 .inside) (omega (arith, c .before .before .before .before .before .before .before .pre .1 .2)) _ (c .before .before .before .before .parent-of .ensures) _ (c .before .if2 .left) (w .1 .1), positive _ (w .1 .0 .marks) (c .before .before .if1 .left)))
+    let read = c .before .before .before .before in
+    let start = read .before .before .before in
+    let pre = start .pre .1 in
+    (omega (arith, start .pre .0), (pre .0, enough-above (pre .0 .parented) _ (pre .1 .inside) (omega (arith, pre .2)) _ (read .parent-of .ensures) _ (c .before .if2 .left) (pre .1), positive _ (pre .0 .marks) (c .before .before .if1 .left)))
 
 climb-slice-write-known-2 : (t : ℕ) → climb-lts.Need-slice-write-known-2 (
   parent-of-reads.Asked,
@@ -106,7 +114,11 @@ climb-slice-write-known-2 : (t : ℕ) → climb-lts.Need-slice-write-known-2 (
   climb-below t,
   climb.Post,
 ) (climb-at t) climb.Post
-climb-slice-write-known-2 t c = omega (arith, c .before .before .before .before .before .before .before .before .before .before .before .pre .1 .0 .room, c .before .before .before .before .before .before .before .before .before .before .before .pre .1 .1 .inside, c .before .before .before .climb .kept .1 .0)
+climb-slice-write-known-2 t c =
+    let climbed = c .before .before .before in
+    let read = climbed .before .before .before .before .before in
+    let pre = read .before .before .before .pre .1 in
+    omega (arith, pre .0 .room, pre .1 .inside, climbed .climb .kept .1 .0)
 
 climb-same-length-2 : (t : ℕ) → climb-lts.Need-same-length-2 (
   parent-of-reads.Asked,
@@ -123,8 +135,11 @@ climb-returns-3 : (t : ℕ) → climb-lts.Need-returns-3 (
   climb.Post,
 ) (climb-at t) climb.Post
 climb-returns-3 t c =
-    let h = sym (c .if3 .taken) ∙ c .before .before .before .climb .ensures .0 ∙ reach-above (c .before .before .before .before .before .before .before .before .before .before .before .pre .1 .0 .parented) _ (c .before .before .before .before .before .before .before .before .before .before .before .pre .1 .1 .inside) (omega (arith, c .before .before .before .before .before .before .before .before .before .before .before .pre .1 .2)) _ (c .before .before .before .before .before .before .before .before .parent-of .ensures) in
-    (h, known-more _ (c .before .before .before .climb .ensures .1) (sym h))
+    let climbed = c .before .before .before in
+    let read = climbed .before .before .before .before .before in
+    let pre = read .before .before .before .pre .1 in
+    let h = sym (c .if3 .taken) ∙ climbed .climb .ensures .0 ∙ reach-above (pre .0 .parented) _ (pre .1 .inside) (omega (arith, pre .2)) _ (read .parent-of .ensures) in
+    (h, known-more _ (climbed .climb .ensures .1) (sym h))
 
 climb-same-length-3 : (t : ℕ) → climb-lts.Need-same-length-3 (
   parent-of-reads.Asked,
@@ -140,7 +155,11 @@ climb-returns-4 : (t : ℕ) → climb-lts.Need-returns-4 (
   climb-below t,
   climb.Post,
 ) (climb-at t) climb.Post
-climb-returns-4 t c = (sym (c .if3 .left) ∙ c .before .before .before .climb .ensures .0 ∙ reach-above (c .before .before .before .before .before .before .before .before .before .before .before .pre .1 .0 .parented) _ (c .before .before .before .before .before .before .before .before .before .before .before .pre .1 .1 .inside) (omega (arith, c .before .before .before .before .before .before .before .before .before .before .before .pre .1 .2)) _ (c .before .before .before .before .before .before .before .before .parent-of .ensures), c .before .before .before .climb .ensures .1)
+climb-returns-4 t c =
+    let climbed = c .before .before .before in
+    let read = climbed .before .before .before .before .before in
+    let pre = read .before .before .before .pre .1 in
+    (sym (c .if3 .left) ∙ climbed .climb .ensures .0 ∙ reach-above (pre .0 .parented) _ (pre .1 .inside) (omega (arith, pre .2)) _ (read .parent-of .ensures), climbed .climb .ensures .1)
 
 pub +climb-spec : {M : Type 1} → statement M
 +climb-spec = close μ-climb λ t. climb-lts.spec (

@@ -32,22 +32,32 @@ climb-requires : tie.Need-climb-requires Inv-loop μ-loop
 climb-requires c κs = (c .before .before .loop .inv .0, enough-all _ _ _ (c .before .before .before .before .before .pre .1) (omega arith), omega arith)
 
 same-length : tie.Need-same-length Inv-loop μ-loop
-same-length c = c .before .before .before .climb .kept .1 .0 ∙ c .before .before .before .before .before .before .loop .inv .1
+same-length c =
+    let climbed = c .before .before .before in
+    let head = climbed .before .before .before in
+    climbed .climb .kept .1 .0 ∙ head .loop .inv .1
 
 returns : tie.Need-returns Inv-loop μ-loop
 unfolding checkedAs
-returns c = (sym (c .before .before .before .before .before .before .loop .inv .3 ∙ rest-refuse _ _ _ _ _ (c .before .before .before .before .before .loop-test .taken) (climb-refuse _ _ (c .before .before .before .climb .ensures .0) (not-true _ (c .if1 .taken)))), c .before .before .before .climb .ensures .1)
+returns c =
+    let climbed = c .before .before .before in
+    let turn = climbed .before .before in
+    let head = turn .before in
+    (sym (head .loop .inv .3 ∙ rest-refuse _ _ _ _ _ (turn .loop-test .taken) (climb-refuse _ _ (climbed .climb .ensures .0) (not-true _ (c .if1 .taken)))), climbed .climb .ensures .1)
 
 loop-less : tie.Need-loop-less Inv-loop μ-loop
 loop-less c = search needs
 
 loop-again : tie.Need-loop-again Inv-loop μ-loop
-loop-again c = (
-  climbable (c .before .before .before .before .before .before .loop .inv .0) (c .before .before .before .climb .kept .1 .0) (c .before .before .before .climb .ensures .1),
-  c .before .before .before .climb .kept .1 .0 ∙ c .before .before .before .before .before .before .loop .inv .1,
-  omega arith,
-  c .before .before .before .before .before .before .loop .inv .3 ∙ rest-next _ _ _ (c .before .before .before .before .before .loop-test .taken) (climb-pass _ _ (c .before .before .before .climb .ensures .0) (not-false _ (c .if1 .left))),
-)
+loop-again c =
+    let climbed = c .before .before .before in
+    let turn = climbed .before .before in
+    let inv = turn .before .loop .inv in (
+      climbable (inv .0) (climbed .climb .kept .1 .0) (climbed .climb .ensures .1),
+      climbed .climb .kept .1 .0 ∙ inv .1,
+      omega arith,
+      inv .3 ∙ rest-next _ _ _ (turn .loop-test .taken) (climb-pass _ _ (climbed .climb .ensures .0) (not-false _ (c .if1 .left))),
+    )
 
 same-length-2 : tie.Need-same-length-2 Inv-loop μ-loop
 same-length-2 c = c .before .loop .inv .1

@@ -1,4 +1,4 @@
--- `validity::climbs` meets its contract.
+-- `validity::climbs` meets its contract: before the first climb the environment alone has a mark.
 use borrow.Author.Needs.{needs}
 use Rattle.validity.specs.Laws.{marked-root}
 use Rattle.validity.proofs.climbs.Statement.{statement}

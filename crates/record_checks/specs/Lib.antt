@@ -1,0 +1,3 @@
+-- The readings of records, and their laws.
+pub mod Reading
+pub mod Laws

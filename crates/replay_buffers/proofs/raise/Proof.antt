@@ -1,0 +1,47 @@
+-- `replay_buffers::raise` meets its contract. Behind the last byte there is no bit.
+use borrow.Author.Needs.{needs}
+use Prim.Native.Nat.{_%_, _/_, ℕ}
+use lib.Bits.{bitOr}
+use lib.ListN.{getD, set}
+use lib.Seq.{set-out}
+use mathlib.Core.Path.{ap, sym}
+use native.Mathlib.Omega.{arith}
+use Rattle.model.specs.Laws.Bit.{one-shl}
+use Rattle.replay_buffers.specs.Storing.{raised}
+use Rattle.replay_buffers.proofs.raise.Statement.{statement}
+use Rattle.replay_buffers.proofs.raise.Tie as tie
+
+cast-buffer : tie.Need-cast-buffer
+cast-buffer c = search needs
+
+shl-buffer : tie.Need-shl-buffer
+shl-buffer c = search needs
+
+slice-read-buffer : tie.Need-slice-read-buffer
+slice-read-buffer c = search needs
+
+slice-write-buffer : tie.Need-slice-write-buffer
+slice-write-buffer c = search needs
+
+same-length : tie.Need-same-length
+same-length c = search needs
+
+returns : tie.Need-returns
+unfolding raised
+returns c = let a = c .before .before .args in ap (λ (v : ℕ). set (a .buffer .now) (a .k / 8) (bitOr (getD (a .buffer .now) (a .k / 8) 0) v)) (one-shl (a .k % 8) 8 (omega arith))
+
+returns-2 : tie.Need-returns-2
+unfolding raised
+returns-2 c = let a = c .before .args in sym (set-out (a .buffer .now) (a .k / 8) _ (omega arith))
+
+pub raise-spec : {M : Type 1} → statement M
+raise-spec =
+    tie.close
+    (tie.spec
+    cast-buffer
+    shl-buffer
+    slice-read-buffer
+    slice-write-buffer
+    same-length
+    returns
+    returns-2)

@@ -1,0 +1,2 @@
+-- The text filled is the one shown.
+pub mod Laws
