@@ -52,6 +52,48 @@ pub fn load_most(path: &[u8], buffer: &mut [u8], max: usize) -> usize
     l.len
 }
 
+// How many bytes of a file are to be lent, none where it can't be read.
+pub struct FileRead {
+    pub good: bool,
+    pub len: usize,
+}
+
+// Reads as load_most does. A file that can't be opened, or be read to its end, is told on standard error in the system's
+// words. A byte after a part that doesn't fill the buffer shows that a read before it failed.
+pub fn read_most(path: &[u8], buffer: &mut [u8], max: usize) -> FileRead
+    requires { ⌜ max < length (now buffer) ⌝ }
+    ensures { λ r. ⌜ (Counts (r .len) (now (buffer .exit))) × (r .len ≤ max + 1)
+        × (drop max (now (buffer .exit)) ≡ drop max (now (buffer .entry))) ⌝ }
+{
+    let fd = os::open_read(path);
+    if fd < 0 {
+        os::fail(path);
+        return FileRead {
+            good: false,
+            len: 0,
+        };
+    }
+    let n = io::read_full(fd, &mut buffer[..max]);
+    let mut one = [0u8; 1];
+    let got = libc::read(fd, &mut one);
+    if (got < 0) | ((0 < got) & (n < max)) {
+        os::fail(path);
+        libc::close(fd);
+        return FileRead {
+            good: false,
+            len: 0,
+        };
+    }
+    libc::close(fd);
+    if 0 < got {
+        return FileRead {
+            good: true,
+            len: max + 1,
+        };
+    }
+    FileRead { good: true, len: n }
+}
+
 // Writes the first n bytes to standard output, by one call.
 pub fn first(bytes: &[u8], n: usize)
     requires { ⌜ n ≤ length (now bytes) ⌝ }

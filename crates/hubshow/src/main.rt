@@ -1,4 +1,5 @@
-// Reads itinerary.bin and writes the text form of the itinerary, or the line of its refusal.
+// Reads itinerary.bin and writes the text form of the itinerary. Where it is refused, or the file can't be read, nothing is
+// written but the cause, on standard error.
 use text_form::TextWritten;
 ghost use mathlib.Core.Path.{_≡_};
 ghost use Prim.Native.Nat.{_≤_};
@@ -22,7 +23,10 @@ fn show_text(it: &[u8], text: &mut [u8]) -> usize
         × (r ≤ length (now (text .exit))) ⌝ }
 {
     match text_write::write_text(it, text) {
-        TextWritten::Refused(r) => text_put::put_line(text, b"refused ", r.number as u16, r.record),
+        TextWritten::Refused(r) => {
+            text_refusal::tell(b"hubshow", r);
+            0
+        }
         TextWritten::Length(len) => len,
         TextWritten::NoRoom(_) => 0,
     }
@@ -31,7 +35,11 @@ fn show_text(it: &[u8], text: &mut [u8]) -> usize
 fn main() {
     let mut it = [0u8; 8193];
     let mut text = room();
-    let n = files::load_most(b"itinerary.bin", &mut it, 8192);
+    let file = files::read_most(b"itinerary.bin", &mut it, 8192);
+    if !file.good {
+        return;
+    }
+    let n = file.len;
     let r = show_text(&it[..n], &mut text);
     files::first(&text, r);
 }

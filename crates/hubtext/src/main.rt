@@ -1,7 +1,16 @@
-// Reads itinerary.txt, the text form of an itinerary, and writes the itinerary's bytes. Where the text has a fault it
-// writes none, and one line on standard error: the lowest line at fault, and the cause.
+// Reads itinerary.txt, the text form of an itinerary, and writes the itinerary's bytes. It fails closed: where the text has
+// a fault or can't be read it writes one byte, which is no itinerary, and one line on standard error: the lowest line at
+// fault and the cause, or what the system says of the file.
 use libc::STDERR_FILENO;
 use text_form::TextRead;
+ghost use mathlib.Core.Path.{_≡_};
+ghost use Prim.Native.Nat.{_≤_};
+ghost use lib.ListN.{length};
+ghost use Rattle.text_put.specs.Puts.{over};
+ghost use Rattle.text_form.specs.Reading.{converted, noItinerary};
+
+// How many bytes are written where there is no itinerary: every call refuses a length that is no multiple of 8.
+const NONE: usize = 1;
 
 // Room for the longest text of 1,024 records, and one byte more, by which the reader tells that a text is longer.
 fn room() -> [u8; 1061889] {
@@ -12,7 +21,7 @@ fn error(bytes: &[u8]) {
     io::write_all(STDERR_FILENO, bytes);
 }
 
-// The words of a cause, by its number in specs/Reading.antt of textform.
+// The words of a cause, by its number in specs/Reading.antt of text_form.
 fn show_cause(cause: u8) {
     match cause {
         1 => error(b"more than 1024 records\n"),
@@ -51,16 +60,39 @@ fn show_fault(line: u16, cause: u8) {
     show_cause(cause);
 }
 
-fn convert(text: &[u8], it: &mut [u8]) {
+// Puts what stands for an itinerary that can't be had, and answers its length.
+fn put_none(it: &mut [u8]) -> usize
+    requires { ⌜ 1 ≤ length (now it) ⌝ }
+    ensures { λ r. ⌜ (r ≡ length noItinerary) × (now (it .exit) ≡ over noItinerary (now (it .entry))) ⌝ }
+{
+    it[0] = 0;
+    NONE
+}
+
+// Fills the bytes with what the program writes, by whether its file can be read, and answers their number.
+fn convert(readable: bool, text: &[u8], it: &mut [u8]) -> usize
+    requires { ⌜ length (now it) ≡ 8192 ⌝ }
+    ensures { λ r. ⌜ (r ≡ length (converted readable (now (text .entry))))
+        × (now (it .exit) ≡ over (converted readable (now (text .entry))) (now (it .entry)))
+        × (r ≤ length (now (it .exit))) ⌝ }
+{
+    if !readable {
+        return put_none(it);
+    }
     match text_read::read_text(text, it) {
-        TextRead::Records(k) => files::first(it, 8 * (k as usize)),
-        TextRead::Fault { line, cause } => show_fault(line, cause),
+        TextRead::Records(k) => 8 * (k as usize),
+        TextRead::Fault { line, cause } => {
+            show_fault(line, cause);
+            put_none(it)
+        }
     }
 }
 
 fn main() {
     let mut text = room();
     let mut it = [0u8; 8192];
-    let n = files::load_most(b"itinerary.txt", &mut text, 1061888);
-    convert(&text[..n], &mut it);
+    let file = files::read_most(b"itinerary.txt", &mut text, 1061888);
+    let n = file.len;
+    let r = convert(file.good, &text[..n], &mut it);
+    files::first(&it, r);
 }

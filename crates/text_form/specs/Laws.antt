@@ -11,4 +11,5 @@ pub mod Walking
 pub mod Listing
 pub mod Room
 pub mod Longest
+pub mod Converted
 pub mod Examples

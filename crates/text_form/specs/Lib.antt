@@ -2,5 +2,5 @@
 pub mod Lines
 pub mod Reading
 pub mod Writing
-pub mod Inner
+pub mod Parts
 pub mod Laws

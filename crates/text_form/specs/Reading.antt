@@ -305,3 +305,18 @@ readAfter text it = let x = scan (roomIn it) text in readInto (x .fault) (encode
 unfoldable pub causeOf : LineRead → ℕ
 causeOf (Good l left) = 0
 causeOf (Bad cause) = cause
+
+-- one byte, which is no itinerary: what stands for one that can't be had
+unfoldable pub noItinerary : List ℕ
+noItinerary = 0 ∷ []
+
+-- by whether there is a fault
+unfoldable pub bytesOr : Option ℕ → List ℕ → List ℕ
+bytesOr none bytes = bytes
+bytesOr (some cause) bytes = noItinerary
+
+-- what hubtext writes, by whether its file can be read: the bytes of the itinerary that the text stands for, and one byte
+-- where the text has a fault or can't be read
+unfoldable pub converted : Bool → List ℕ → List ℕ
+converted true text = bytesOr (scan 1024 text .fault) (bytesOf text)
+converted false text = noItinerary

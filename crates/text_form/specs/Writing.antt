@@ -7,7 +7,7 @@ use mathlib.Core.List.{List, [], _++_, _∷_, map}
 use mathlib.Core.Option.{Option, none, some}
 use Rattle.model.specs.Climbing.{hidden}
 use Rattle.model.specs.Finite.{lowest, unequal}
-use Rattle.model.specs.Listing.{field, lastField, refusedWord}
+use Rattle.model.specs.Listing.{field}
 use Rattle.model.specs.Records.{at, parentOf, records}
 use Rattle.model.specs.Refusals.{Check, andThen, content, need, pass, refuse}
 use Rattle.model.specs.Tables.{suspects, tableRight}
@@ -120,7 +120,7 @@ listAnswer s table text = told (listable s table) (listOf (records s) (suspects 
 unfoldable pub listAfter : List ℕ → List ℕ → List ℕ → List ℕ
 listAfter s table text = toldAfter (listable s table) (listOf (records s) (suspects table)) text
 
--- what a program writes: the text, or the line of a refusal; "A refusal writes only one line"
+-- what hubshow and hublist write: the text, and nothing where they are refused
 unfoldable pub textOr : Check → List ℕ → List ℕ
 textOr pass w = w
-textOr (refuse n r) w = refusedWord ++ field n (lastField r [])
+textOr (refuse n r) w = []

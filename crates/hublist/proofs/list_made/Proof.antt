@@ -11,8 +11,8 @@ make-requires c κs = search needs
 enum-known-r : tie.Need-enum-known-r
 enum-known-r c = search needs
 
-put-refused-requires : tie.Need-put-refused-requires
-put-refused-requires c κs = search needs
+tell-requires : tie.Need-tell-requires
+tell-requires c κs = search needs
 
 enum-told : tie.Need-enum-told
 enum-told c = search needs
@@ -23,26 +23,26 @@ list-requires c κs = search needs
 same-length : tie.Need-same-length
 same-length c = search needs
 
-same-length-2 : tie.Need-same-length-2
-same-length-2 c = search needs
-
 returns : tie.Need-returns
 returns c =
-    let make = c .before .before .before .before .before .before .before .before .before .make in
-    let t = made-refused _ (c .before .before .before .before .before .before .before .before .before .before .before .before .before .before .before .args .policy .now) _ (make .result) (make .ensures .0) _ (c .before .before .before .before .before .r .given .1) (c .before .before .put-refused .ensures) in
-    (t .0, t .1, make .ensures .1, omega (arith, listed-fits _ _ _ (t .0), c .before .before .before .before .before .before .before .before .before .before .before .before .before .before .before .pre, c .before .before .put-refused .kept .0))
+    let start = c .before .before .before .before .before .before .before .before .before .before .before .before in
+    let make = c .before .before .before .before .before .before .make in
+    let t = made-refused _ (start .args .policy .now) _ (make .result) (make .ensures .0) _ (c .before .before .r .given .1) (c .tell .ensures) (start .args .text .now) in
+    (t .0, t .1, make .ensures .1, omega (arith, listed-fits _ _ _ (t .0), start .pre))
+
+same-length-2 : tie.Need-same-length-2
+same-length-2 c = search needs
 
 same-length-3 : tie.Need-same-length-3
 same-length-3 c = search needs
 
-same-length-4 : tie.Need-same-length-4
-same-length-4 c = search needs
-
 returns-2 : tie.Need-returns-2
 returns-2 c =
+    let start = c .before .before .before .before .before .before .before .before .before .before .before .before .before .before .before in
     let make = c .before .before .before .before .before .before .before .before .before .make in
-    let t = made-done _ (c .before .before .before .before .before .before .before .before .before .before .before .before .before .before .before .args .policy .now) _ (make .result) (make .ensures .0) _ (c .before .before .before .before .before .enum-told .given .1) _ _ (make .ensures .1) (c .before .before .list .ensures) in
-    (t .0, t .1, make .ensures .1, omega (arith, listed-fits _ _ _ (t .0), c .before .before .before .before .before .before .before .before .before .before .before .before .before .before .before .pre, c .before .before .list .kept .1 .1 .0))
+    let list = c .before .before .list in
+    let t = made-done _ (start .args .policy .now) _ (make .result) (make .ensures .0) _ (c .before .before .before .before .before .enum-told .given .1) _ _ (make .ensures .1) (list .ensures) in
+    (t .0, t .1, make .ensures .1, omega (arith, listed-fits _ _ _ (t .0), start .pre, list .kept .1 .1 .0))
 
 pub list-made-spec : {M : Type 1} → statement M
 list-made-spec =
@@ -50,12 +50,11 @@ list-made-spec =
     (tie.spec
     make-requires
     enum-known-r
-    put-refused-requires
+    tell-requires
     enum-told
     list-requires
     same-length
-    same-length-2
     returns
+    same-length-2
     same-length-3
-    same-length-4
     returns-2)

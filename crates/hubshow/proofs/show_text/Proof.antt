@@ -1,7 +1,6 @@
 -- `hubshow::show_text` meets its contract: a valid itinerary has a text with room, so that there is never too little.
 use borrow.Author.Needs.{needs}
 use native.Mathlib.Omega.{arith}
-use Rattle.model.specs.Listing.{refusedWord}
 use Rattle.text_form.specs.Laws.Room.{never, refused, text-fits, text-short, wrote}
 use Rattle.text_form.specs.Writing.{writeAfter, writeAnswer}
 use Rattle.hubshow.proofs.show_text.Statement.{statement}
@@ -13,14 +12,11 @@ write-text-requires c κs = search needs
 enum-known-r : tie.Need-enum-known-r
 enum-known-r c = search needs
 
-slice-aggregate-put-line : tie.Need-slice-aggregate-put-line
-slice-aggregate-put-line c = search needs
+slice-aggregate-tell : tie.Need-slice-aggregate-tell
+slice-aggregate-tell c = search needs
 
-cast-put-line : tie.Need-cast-put-line
-cast-put-line c = search needs
-
-put-line-requires : tie.Need-put-line-requires
-put-line-requires c κs = search needs
+tell-requires : tie.Need-tell-requires
+tell-requires c κs = search needs
 
 enum-known-len : tie.Need-enum-known-len
 enum-known-len c = search needs
@@ -32,10 +28,12 @@ same-length : tie.Need-same-length
 same-length c = search needs
 
 returns : tie.Need-returns
-unfolding refusedWord writeAnswer writeAfter
+unfolding writeAnswer writeAfter
 returns c =
-    let t = refused _ _ _ _ (c .before .before .before .before .before .before .before .before .before .before .before .write-text .result) (c .before .before .before .before .before .before .before .before .before .before .before .write-text .ensures .0) (c .before .before .before .before .before .before .before .before .before .before .before .write-text .ensures .1) (λ p. omega (arith, text-short _ p, c .before .before .before .before .before .before .before .before .before .before .before .before .before .before .before .pre)) _ (c .before .before .before .before .before .before .before .r .given .1) (c .before .before .put-line .ensures) in
-    (t .0, t .1, omega (arith, text-fits _ (t .0), c .before .before .before .before .before .before .before .before .before .before .before .before .before .before .before .pre, c .before .before .before .before .before .before .before .before .before .before .before .write-text .kept .1 .0, c .before .before .put-line .kept .0))
+    let pre = c .before .before .before .before .before .before .before .before .before .before .before .pre in
+    let write-text = c .before .before .before .before .before .before .before .write-text in
+    let t = refused _ _ _ _ (write-text .result) (write-text .ensures .0) (write-text .ensures .1) (λ p. omega (arith, text-short _ p, pre)) _ (c .before .before .before .r .given .1) in
+    (t .0, t .1, omega (arith, text-fits _ (t .0), pre, write-text .kept .1 .0))
 
 same-length-2 : tie.Need-same-length-2
 same-length-2 c = search needs
@@ -43,15 +41,20 @@ same-length-2 c = search needs
 returns-2 : tie.Need-returns-2
 unfolding writeAnswer writeAfter
 returns-2 c =
-    let t = wrote _ _ _ _ (c .before .before .before .before .before .write-text .result) (c .before .before .before .before .before .write-text .ensures .0) (c .before .before .before .before .before .write-text .ensures .1) (λ p. omega (arith, text-short _ p, c .before .before .before .before .before .before .before .before .before .pre)) _ (c .before .len .given .1) in
-    (t .0, t .1, omega (arith, text-fits _ (t .0), c .before .before .before .before .before .before .before .before .before .pre, c .before .before .before .before .before .write-text .kept .1 .0))
+    let pre = c .before .before .before .before .before .before .before .before .before .pre in
+    let write-text = c .before .before .before .before .before .write-text in
+    let t = wrote _ _ _ _ (write-text .result) (write-text .ensures .0) (write-text .ensures .1) (λ p. omega (arith, text-short _ p, pre)) _ (c .before .len .given .1) in
+    (t .0, t .1, omega (arith, text-fits _ (t .0), pre, write-text .kept .1 .0))
 
 same-length-3 : tie.Need-same-length-3
 same-length-3 c = search needs
 
 returns-3 : tie.Need-returns-3
 unfolding writeAnswer writeAfter
-returns-3 c = absurd (never _ _ _ _ (c .before .before .before .before .write-text .result) (c .before .before .before .before .write-text .ensures .0) (c .before .before .before .before .write-text .ensures .1) (λ p. omega (arith, text-short _ p, c .before .before .before .before .before .before .before .before .pre)) _ (c .enum-told .given .1))
+returns-3 c =
+    let pre = c .before .before .before .before .before .before .before .before .pre in
+    let write-text = c .before .before .before .before .write-text in
+    absurd (never _ _ _ _ (write-text .result) (write-text .ensures .0) (write-text .ensures .1) (λ p. omega (arith, text-short _ p, pre)) _ (c .enum-told .given .1))
 
 pub show-text-spec : {M : Type 1} → statement M
 show-text-spec =
@@ -59,9 +62,8 @@ show-text-spec =
     (tie.spec
     write-text-requires
     enum-known-r
-    slice-aggregate-put-line
-    cast-put-line
-    put-line-requires
+    slice-aggregate-tell
+    tell-requires
     enum-known-len
     enum-told
     same-length

@@ -27,7 +27,7 @@ use Rattle.text_form.specs.Laws.Identity.{next-visited, walk-end}
 use Rattle.text_form.specs.Laws.Nesting.{walk-next}
 use Rattle.text_form.specs.Laws.Walking.{valid-sized}
 use Rattle.text_form.specs.Lines.{entry}
-use Rattle.text_form.specs.Inner.{Whole, Written, front, visitLine}
+use Rattle.text_form.specs.Parts.{Whole, Written, front, visitLine}
 use Rattle.text_form.specs.Writing.{lineAt, linesOf, listAfter, listAnswer, listLine, listOf, listable, mark, nextFrom, told, toldAfter, walk, walkFrom}
 use Rattle.text_form.specs.declared.TextWritten.{TextWritten}
 use Rattle.text_form.specs.declared.TextWritten.the-variants.{Refused}

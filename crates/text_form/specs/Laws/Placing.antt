@@ -14,7 +14,7 @@ use Rattle.text_put.specs.Puts.{over}
 use Rattle.text_form.specs.Laws.Lines.{Got, line-good, scan-bad, scan-good, scan-nested}
 use Rattle.text_form.specs.Laws.Nesting.{length-placed, none-length}
 use Rattle.text_form.specs.Reading.{Scan, before, causeOf, lineRead, linesAnswer, noneAbove, placed, placedFrom, readAfter, readBy, readInto, recordOf, roomIn, scan, scanAnswer, scanFrom}
-use Rattle.text_form.specs.Inner.{scanned}
+use Rattle.text_form.specs.Parts.{scanned}
 use Rattle.text_form.specs.declared.Line.{Line}
 use Rattle.text_form.specs.declared.LineRead.{LineRead}
 use Rattle.text_form.specs.declared.LineRead.the-variants.{Bad, Good}

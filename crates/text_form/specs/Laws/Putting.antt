@@ -10,7 +10,7 @@ use Rattle.model.specs.Listing.{digitsIn, field}
 use Rattle.text_put.specs.Puts.{Put, splice}
 use Rattle.text_put.specs.Laws.{put-as, put-then, splice-byte, splice-splice}
 use Rattle.text_form.specs.Lines.{ambientWord, entry, hiddenWord, inWord, indent, kindWord, openWord, outWord}
-use Rattle.text_form.specs.Inner.{fields, front}
+use Rattle.text_form.specs.Parts.{fields, front}
 use Rattle.text_form.specs.Writing.{mark}
 use Rattle.text_form.specs.declared.Line.{Line}
 

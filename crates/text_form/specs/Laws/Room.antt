@@ -1,26 +1,26 @@
 -- Room: a valid itinerary has at most 1,024 lines, each indented by at most one step more than the one before and with at
 -- most 14 bytes after the indentation; the listing has at most 13 more in a line. So a program that lends enough always has
--- its text, or the one line of a refusal.
+-- its text, which is empty where it is refused.
 use Prim.Native.Nat.{_*_, _+_, _≤_, suc, zero, ℕ}
 use borrow.Author.Tests.{le-leb, leb-true}
 use lib.Dec.{eqb, leb}
 use lib.ListN.{length, length-append, length-map}
 use mathlib.Core.Bool.{Bool, _&&_, false, true}
-use mathlib.Core.List.{List, [], _++_, _∷_, map}
+use mathlib.Core.List.{List, [], _∷_, map}
 use mathlib.Core.Option.{Option, none, some}
 use mathlib.Core.Path.{_∙_, _≡_, refl, sym}
 use native.Mathlib.Omega.{arith}
 use Rattle.model.specs.Climbing.{hidden}
 use Rattle.model.specs.Laws.Booleans.{and-right}
-use Rattle.model.specs.Listing.{digitsIn, field, lastField, refusedWord}
+use Rattle.model.specs.Listing.{digitsIn, field}
 use Rattle.model.specs.Records.{records}
 use Rattle.model.specs.Refusals.{Check, content, pass, refuse}
 use Rattle.model.specs.Validity.{labelIn, validity}
 use Rattle.model.specs.declared.Rec.{Rec}
 use Rattle.model.specs.declared.Refusal.{Refusal}
-use Rattle.text_put.specs.Puts.{Put, over}
+use Rattle.text_put.specs.Puts.{over}
 use Rattle.text_put.specs.Digits.{digits-few, digits-two}
-use Rattle.text_put.specs.Laws.{field-few, line-few, put-over}
+use Rattle.text_put.specs.Laws.{field-few}
 use Rattle.text_form.specs.Laws.Identity.{written-nested}
 use Rattle.text_form.specs.Laws.Lines.{scan-nested}
 use Rattle.text_form.specs.Laws.Nesting.{Nested, Right, cons, nil}
@@ -102,7 +102,7 @@ module _ (s : List ℕ) (v : validity s ≡ pass) where
   list-short S =
       omega (arith, list-more (records s) (hidden (records s) S) (walk (records s)), text-short, written-nested s v .1, length-map (walk (records s)) (lineAt (records s)))
 
--- what a writer with room leaves, with the line of a refusal put where it refuses
+-- what a writer with room leaves
 module _ (c : Check) (w t t₁ : List ℕ) (r : TextWritten) (e : r ≡ told c w t) (f : t₁ ≡ toldAfter c w t) (room : c ≡ pass → length w ≤ length t) where
   with-room : c ≡ pass → (r ≡ Length (length w)) × (t₁ ≡ over w t)
   unfolding told toldAfter content fits overIf
@@ -120,20 +120,13 @@ module _ (c : Check) (w t t₁ : List ℕ) (r : TextWritten) (e : r ≡ told c w
       go pass p = let o = with-room p in let l : Length n ≡ Length (length w) = sym q ∙ o .0 in (cc, o .1)
       go (refuse m i) p = let o = without m i p in let u : _≡_ {A = ℕ} 0 1 = cc in absurd (omega arith)
 
-  pub refused : (x : Refusal) → r ≡ Refused x → {t₂ : List ℕ} {n : ℕ} → Put t₁ 0 (refusedWord ++ field (x .number) (lastField (x .record) [])) t₂ n →
-      (n ≡ length (textOr c w)) × (t₂ ≡ over (textOr c w) t)
-  unfolding textOr
-  refused x q {t₂} {n} y = go c refl
+  pub refused : (x : Refusal) → r ≡ Refused x → (0 ≡ length (textOr c w)) × (t₁ ≡ over (textOr c w) t)
+  unfolding textOr over
+  refused x q = go c refl
     where
-      go : (d : Check) → c ≡ d → (n ≡ length (textOr d w)) × (t₂ ≡ over (textOr d w) t)
+      go : (d : Check) → c ≡ d → (0 ≡ length (textOr d w)) × (t₁ ≡ over (textOr d w) t)
       go pass p = let o = with-room p in let u : _≡_ {A = ℕ} 0 1 = cc in absurd (omega arith)
-      go (refuse m i) p =
-          let o = without m i p in
-          let l : Refused x ≡ Refused (record { number = m; «record» = i }) = sym q ∙ o .0 in
-          let k : x .number ≡ m = cc in
-          let j : x .record ≡ i = cc in
-          let z = put-over y in
-          rw (k, j, o .1) at z
+      go (refuse m i) p = let o = without m i p in (refl, o .1)
 
   pub never : (n : ℕ) → r ≡ NoRoom n → ⊥
   never n q = go c refl
@@ -142,14 +135,14 @@ module _ (c : Check) (w t t₁ : List ℕ) (r : TextWritten) (e : r ≡ told c w
       go pass p = let o = with-room p in let u : _≡_ {A = ℕ} 0 1 = cc in omega arith
       go (refuse m i) p = let o = without m i p in let u : _≡_ {A = ℕ} 0 1 = cc in omega arith
 
--- the text or the line has room where the text has
-pub or-short : (c : Check) (w : List ℕ) (n : ℕ) → 20 ≤ n → (c ≡ pass → length w ≤ n) → length (textOr c w) ≤ n
-unfolding textOr refusedWord
-or-short pass w n h f = f refl
-or-short (refuse m i) w n h f = omega (arith, line-few m i)
+-- the text or nothing has room where the text has
+pub or-short : (c : Check) (w : List ℕ) (n : ℕ) → (c ≡ pass → length w ≤ n) → length (textOr c w) ≤ n
+unfolding textOr
+or-short pass w n f = f refl
+or-short (refuse m i) w n f = omega arith
 
 pub text-fits : (s : List ℕ) {n : ℕ} → n ≡ length (textOr (validity s) (textOf (records s))) → n ≤ 1061888
-text-fits s e = omega (arith, or-short (validity s) (textOf (records s)) 1061888 (omega arith) (text-short s))
+text-fits s e = omega (arith, or-short (validity s) (textOf (records s)) 1061888 (text-short s))
 
 -- a length that is told changes no count
 length-told : (k : ℕ) (b : Bool) (r : TextRead) → Records k ≡ lengthTold b r → Records k ≡ r

@@ -23,7 +23,7 @@ use Rattle.text_form.specs.Laws.Identity.{next-visited, walk-end}
 use Rattle.text_form.specs.Laws.Nesting.{walk-next}
 use Rattle.text_form.specs.Laws.Putting.{entry-length, fields-length}
 use Rattle.text_form.specs.Lines.{ambientWord, entry, hiddenWord, inWord, kindWord, lineBytes, openWord, outWord, render}
-use Rattle.text_form.specs.Inner.{Whole, Written, front, visitLine}
+use Rattle.text_form.specs.Parts.{Whole, Written, front, visitLine}
 use Rattle.text_form.specs.Writing.{childAfter, childOr, fits, isChild, lineAt, linesOf, mark, nextFrom, orZero, overIf, textOf, told, toldAfter, walk, walkFrom, writeAfter, writeAnswer}
 use Rattle.text_form.specs.declared.TextWritten.{TextWritten}
 use Rattle.text_form.specs.declared.TextWritten.the-variants.{Length, NoRoom, Refused}

@@ -12,7 +12,10 @@ room-in-requires : tie.Need-room-in-requires
 room-in-requires c κs = search needs
 
 scan-requires : tie.Need-scan-requires
-scan-requires c κs = search needs
+scan-requires c κs =
+    let room-in = c .before .before .room-in in
+    let pre = c .before .before .before .before .before .before .before .pre in
+    (omega (arith, room-in .ensures), omega (arith, room-in .ensures, pre .0), pre .1)
 
 enum-known-got : tie.Need-enum-known-got
 enum-known-got c = search needs

@@ -51,51 +51,82 @@ enum-told : tie.Need-enum-told Inv-loop μ-loop
 enum-told c = search needs
 
 add-t17 : tie.Need-add-t17 Inv-loop μ-loop
-add-t17 c = omega (arith, c .before .before .before .before .before .before .before .before .before .before .pre .0, c .before .before .before .before .before .before .loop .inv .few)
+add-t17 c =
+    let pre = c .before .before .before .before .before .before .before .before .before .before .pre in
+    omega (arith, pre .0, c .before .before .before .before .before .before .loop .inv .few)
 
 cause-of-requires : tie.Need-cause-of-requires Inv-loop μ-loop
 cause-of-requires c κs = search needs
 
 same-length-3 : tie.Need-same-length-3 Inv-loop μ-loop
-same-length-3 c = c .before .before .before .before .before .before .before .loop .inv .sized
+same-length-3 c =
+    let loop = c .before .before .before .before .before .before .before .loop in
+    loop .inv .sized
 
 same-length-4 : tie.Need-same-length-4 Inv-loop μ-loop
-same-length-4 c = c .before .before .before .before .before .before .before .loop .inv .long ∙ sym (ap length (c .before .before .before .before .before .before .before .before .before .before .before .pre .2) ∙ none-length)
+same-length-4 c =
+    let loop = c .before .before .before .before .before .before .before .loop in
+    let pre = c .before .before .before .before .before .before .before .before .before .before .before .pre in
+    loop .inv .long ∙ sym (ap length (pre .2) ∙ none-length)
 
 returns-2 : tie.Need-returns-2 Inv-loop μ-loop
 returns-2 c =
     let loop = c .before .before .before .before .before .before .before .loop in
-    bad (loop .inv) _ (c .before .before .before .before .before .before .loop-test .taken) (c .before .before .before .before .before .if1 .left) (sym (c .before .before .before .read-line .ensures ∙ ap (lineRead _) (part (loop .at) (c .before .before .before .before .before .before .before .before .before .before .before .args .text .now))) ∙ told-bad _ (c .before .enum-told .given .1) (c .cause-of .ensures))
+    let args = c .before .before .before .before .before .before .before .before .before .before .before .args in
+    bad (loop .inv) _ (c .before .before .before .before .before .before .loop-test .taken) (c .before .before .before .before .before .if1 .left) (sym (c .before .before .before .read-line .ensures ∙ ap (lineRead _) (part (loop .at) (args .text .now))) ∙ told-bad _ (c .before .enum-told .given .1) (c .cause-of .ensures))
 
 place-requires : tie.Need-place-requires Inv-loop μ-loop
 place-requires c κs =
     let pre = c .before .before .before .before .before .before .before .before .before .before .before .before .before .pre in
     let loop = c .before .before .before .before .before .before .before .before .before .loop in
     let if1 = c .before .before .before .before .before .before .before .if1 in
-    record { few = omega (arith, pre .0, if1 .left); room = omega (arith, pre .1, if1 .left, loop .inv .sized); long = omega (arith, pre .0, if1 .left, loop .inv .long, depth-few (loop .inv) _ _ (c .before .before .before .before .before .before .before .before .loop-test .taken) (if1 .left) (sym (c .before .before .before .before .before .read-line .ensures ∙ ap (lineRead _) (part (loop .at) (c .before .before .before .before .before .before .before .before .before .before .before .before .before .args .text .now))) ∙ c .before .before .before .got .given .1)) }
+    let loop-test = c .before .before .before .before .before .before .before .before .loop-test in
+    let args = c .before .before .before .before .before .before .before .before .before .before .before .before .before .args in
+    record { few = omega (arith, pre .0, if1 .left); room = omega (arith, pre .1, if1 .left, loop .inv .sized); long = omega (arith, pre .0, if1 .left, loop .inv .long, depth-few (loop .inv) _ _ (loop-test .taken) (if1 .left) (sym (c .before .before .before .before .before .read-line .ensures ∙ ap (lineRead _) (part (loop .at) (args .text .now))) ∙ c .before .before .before .got .given .1)) }
 
 sub-at : tie.Need-sub-at Inv-loop μ-loop
 sub-at c =
     let loop = c .before .before .before .before .before .before .before .before .before .before .before .before .before .before .loop in
-    fewer (loop .inv) _ _ (c .before .before .before .before .before .before .before .before .before .before .before .before .before .loop-test .taken) (c .before .before .before .before .before .before .before .before .before .before .before .before .if1 .left) (sym (c .before .before .before .before .before .before .before .before .before .before .read-line .ensures ∙ ap (lineRead _) (part (loop .at) (c .before .before .before .before .before .before .before .before .before .before .before .before .before .before .before .before .before .before .args .text .now))) ∙ c .before .before .before .before .before .before .before .before .got .given .1)
+    let loop-test = c .before .before .before .before .before .before .before .before .before .before .before .before .before .loop-test in
+    let if1 = c .before .before .before .before .before .before .before .before .before .before .before .before .if1 in
+    let read-line = c .before .before .before .before .before .before .before .before .before .before .read-line in
+    let args = c .before .before .before .before .before .before .before .before .before .before .before .before .before .before .before .before .before .before .args in
+    let got = c .before .before .before .before .before .before .before .before .got in
+    fewer (loop .inv) _ _ (loop-test .taken) (if1 .left) (sym (read-line .ensures ∙ ap (lineRead _) (part (loop .at) (args .text .now))) ∙ got .given .1)
 
 add-deepest : tie.Need-add-deepest Inv-loop μ-loop
 add-deepest c =
     let loop = c .before .before .before .before .before .before .before .before .before .before .before .before .before .before .before .loop in
     let if1 = c .before .before .before .before .before .before .before .before .before .before .before .before .before .if1 in
-    omega (arith, c .before .before .before .before .before .before .before .before .before .before .before .before .before .before .before .before .before .before .before .pre .0, if1 .left, depth-few (loop .inv) _ _ (c .before .before .before .before .before .before .before .before .before .before .before .before .before .before .loop-test .taken) (if1 .left) (sym (c .before .before .before .before .before .before .before .before .before .before .before .read-line .ensures ∙ ap (lineRead _) (part (loop .at) (c .before .before .before .before .before .before .before .before .before .before .before .before .before .before .before .before .before .before .before .args .text .now))) ∙ c .before .before .before .before .before .before .before .before .before .got .given .1))
+    let pre = c .before .before .before .before .before .before .before .before .before .before .before .before .before .before .before .before .before .before .before .pre in
+    let loop-test = c .before .before .before .before .before .before .before .before .before .before .before .before .before .before .loop-test in
+    let read-line = c .before .before .before .before .before .before .before .before .before .before .before .read-line in
+    let args = c .before .before .before .before .before .before .before .before .before .before .before .before .before .before .before .before .before .before .before .args in
+    let got = c .before .before .before .before .before .before .before .before .before .got in
+    omega (arith, pre .0, if1 .left, depth-few (loop .inv) _ _ (loop-test .taken) (if1 .left) (sym (read-line .ensures ∙ ap (lineRead _) (part (loop .at) (args .text .now))) ∙ got .given .1))
 
 add-k : tie.Need-add-k Inv-loop μ-loop
-add-k c = omega (arith, c .before .before .before .before .before .before .before .before .before .before .before .before .before .before .before .before .before .before .before .pre .0, c .before .before .before .before .before .before .before .before .before .before .before .before .before .if1 .left)
+add-k c =
+    let pre = c .before .before .before .before .before .before .before .before .before .before .before .before .before .before .before .before .before .before .before .pre in
+    let if1 = c .before .before .before .before .before .before .before .before .before .before .before .before .before .if1 in
+    omega (arith, pre .0, if1 .left)
 
 loop-less : tie.Need-loop-less Inv-loop μ-loop
-loop-less c = omega (arith, c .before .before .before .before .before .before .before .before .before .before .before .before .before .if1 .left)
+loop-less c =
+    let if1 = c .before .before .before .before .before .before .before .before .before .before .before .before .before .if1 in
+    omega (arith, if1 .left)
 
 loop-again : tie.Need-loop-again Inv-loop μ-loop
 loop-again c =
     let loop = c .before .before .before .before .before .before .before .before .before .before .before .before .before .before .before .loop in
     let place = c .before .before .before .before .before .place in
-    next (loop .inv) _ _ (c .before .before .before .before .before .before .before .before .before .before .before .before .before .before .loop-test .taken) (c .before .before .before .before .before .before .before .before .before .before .before .before .before .if1 .left) (sym (c .before .before .before .before .before .before .before .before .before .before .before .read-line .ensures ∙ ap (lineRead _) (part (loop .at) (c .before .before .before .before .before .before .before .before .before .before .before .before .before .before .before .before .before .before .before .args .text .now))) ∙ c .before .before .before .before .before .before .before .before .before .got .given .1) _ _ (c .before .before .before .before .before .before .before .before .before .before .before .before .before .before .before .before .before .before .before .pre .1) (place .ensures .0) (place .ensures .1)
+    let loop-test = c .before .before .before .before .before .before .before .before .before .before .before .before .before .before .loop-test in
+    let if1 = c .before .before .before .before .before .before .before .before .before .before .before .before .before .if1 in
+    let read-line = c .before .before .before .before .before .before .before .before .before .before .before .read-line in
+    let args = c .before .before .before .before .before .before .before .before .before .before .before .before .before .before .before .before .before .before .before .args in
+    let got = c .before .before .before .before .before .before .before .before .before .got in
+    let pre = c .before .before .before .before .before .before .before .before .before .before .before .before .before .before .before .before .before .before .before .pre in
+    next (loop .inv) _ _ (loop-test .taken) (if1 .left) (sym (read-line .ensures ∙ ap (lineRead _) (part (loop .at) (args .text .now))) ∙ got .given .1) _ _ (pre .1) (place .ensures .0) (place .ensures .1)
 
 same-length-5 : tie.Need-same-length-5 Inv-loop μ-loop
 same-length-5 c = c .before .loop .inv .sized

@@ -2,7 +2,7 @@
 use native.Mathlib.Omega.{arith}
 use Rattle.model.specs.Records.{at, records}
 use Rattle.text_form.specs.Laws.Walking.{Filling, fill-end, fill-on, fill-room, fill-start, fill-stop, visit-deep}
-use Rattle.text_form.specs.Inner.{visitLine}
+use Rattle.text_form.specs.Parts.{visitLine}
 use Rattle.text_write.proofs.fill.Statement.{statement}
 use Rattle.text_write.proofs.fill.Tie as tie
 
@@ -50,7 +50,9 @@ loop-again : tie.Need-loop-again Inv-loop μ-loop
 loop-again c =
     let next = c .before .before .before .before .before .before .before .next in
     let put-visit = c .before .before .before .put-visit in
-    fill-on _ _ _ _ _ (next .result) (next .ensures) (c .before .before .before .before .before .before .before .before .before .loop .inv) (c .before .before .before .before .before .before .before .before .loop-test .taken) (c .before .before .before .before .before .if1 .left) (put-visit .kept .0) (put-visit .ensures)
+    let loop = c .before .before .before .before .before .before .before .before .before .loop in
+    let loop-test = c .before .before .before .before .before .before .before .before .loop-test in
+    fill-on _ _ _ _ _ (next .result) (next .ensures) (loop .inv) (loop-test .taken) (c .before .before .before .before .before .if1 .left) (put-visit .kept .0) (put-visit .ensures)
 
 same-length-2 : tie.Need-same-length-2 Inv-loop μ-loop
 same-length-2 c = c .before .loop .inv .lines .sized

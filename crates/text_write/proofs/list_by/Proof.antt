@@ -17,7 +17,9 @@ slice-aggregate-list-with : tie.Need-slice-aggregate-list-with
 slice-aggregate-list-with c = sym (length-take-le _ _ (omega (arith, c .before .before .before .before .before .before .pre, c .before .if1 .left)))
 
 list-with-requires : tie.Need-list-with-requires
-list-with-requires c κs = length-take-le _ _ (omega (arith, c .before .before .before .before .before .before .before .pre, c .before .before .if1 .left))
+list-with-requires c κs =
+    let pre = c .before .before .before .before .before .before .before .pre in
+    length-take-le _ _ (omega (arith, pre, c .before .before .if1 .left))
 
 same-length : tie.Need-same-length
 same-length c = search needs

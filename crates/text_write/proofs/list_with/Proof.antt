@@ -28,7 +28,8 @@ returns : tie.Need-returns
 returns c =
     let args = c .before .before .before .before .before .before .before .before .before .before .before .args in
     let sheet = c .before .before .before .before .before .sheet in
-    list-refused (args .it .now) (args .table .now) (args .text .now) (args .sheet .now) (sheet .last .1 .1 .0) (c .before .before .before .before .before .before .before .before .before .before .before .pre) (sheet .result) (sheet .ensures .0) (sheet .ensures .1) (c .before .r .given .1)
+    let pre = c .before .before .before .before .before .before .before .before .before .before .before .pre in
+    list-refused (args .it .now) (args .table .now) (args .text .now) (args .sheet .now) (sheet .last .1 .1 .0) pre (sheet .result) (sheet .ensures .0) (sheet .ensures .1) (c .before .r .given .1)
 
 same-length-2 : tie.Need-same-length-2
 same-length-2 c = search needs
@@ -40,7 +41,8 @@ returns-2 : tie.Need-returns-2
 returns-2 c =
     let args = c .before .before .before .before .before .before .before .before .before .before .before .before .before .before .before .args in
     let sheet = c .before .before .before .before .before .before .before .before .before .sheet in
-    list-done (args .it .now) (args .table .now) (args .text .now) (args .sheet .now) (sheet .last .1 .1 .0) (c .before .before .before .before .before .before .before .before .before .before .before .before .before .before .before .pre) (sheet .result) (sheet .ensures .0) (sheet .ensures .1) (c .before .before .before .before .before .enum-told .given .1) _ _ (c .before .before .write-by .ensures)
+    let pre = c .before .before .before .before .before .before .before .before .before .before .before .before .before .before .before .pre in
+    list-done (args .it .now) (args .table .now) (args .text .now) (args .sheet .now) (sheet .last .1 .1 .0) pre (sheet .result) (sheet .ensures .0) (sheet .ensures .1) (c .before .before .before .before .before .enum-told .given .1) _ _ (c .before .before .write-by .ensures)
 
 pub list-with-spec : {M : Type 1} → statement M
 list-with-spec =

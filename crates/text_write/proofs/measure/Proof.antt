@@ -4,7 +4,7 @@ use mathlib.Core.Path.{_∙_, _≡_, sym}
 use native.Mathlib.Omega.{arith}
 use Rattle.model.specs.Records.{records}
 use Rattle.text_form.specs.Laws.Walking.{Measured, measure-end, measure-on, measure-start, measure-stop, visit-deep, visit-short}
-use Rattle.text_form.specs.Inner.{visitLine}
+use Rattle.text_form.specs.Parts.{visitLine}
 use Rattle.text_write.proofs.measure.Statement.{statement}
 use Rattle.text_write.proofs.measure.Tie as tie
 
@@ -24,7 +24,9 @@ next-requires : tie.Need-next-requires Inv-loop μ-loop
 next-requires c κs = c .before .before .before .before .before .pre .0
 
 same-length : tie.Need-same-length Inv-loop μ-loop
-same-length c = c .before .before .before .before .loop .inv .1 ∙ sym (c .before .before .before .before .before .before .before .before .pre .2)
+same-length c =
+    let pre = c .before .before .before .before .before .before .before .before .pre in
+    c .before .before .before .before .loop .inv .1 ∙ sym (pre .2)
 
 returns : tie.Need-returns Inv-loop μ-loop
 returns c = measure-stop _ _ _ _ _ (c .before .before .next .result) (c .before .before .next .ensures) _ (c .before .before .before .before .loop .inv .0) (c .if1 .taken)
@@ -62,7 +64,8 @@ loop-again c =
     let loop = c .before .before .before .before .before .before .before .before .before .loop in
     let next = c .before .before .before .before .before .before .before .next in
     let put-visit = c .before .before .before .put-visit in
-    (measure-on _ _ _ _ _ (next .result) (next .ensures) _ _ (loop .inv .0) (c .before .before .before .before .before .before .before .before .loop-test .taken) (c .before .before .before .before .before .if1 .left) (visit-short (args .listed) (records (args .it .now)) (records (args .sheet .now)) (next .result) (omega (arith, visit-deep _ (loop .left) _ _ (next .result) (next .ensures), loop .inv .0 .shallow))) (put-visit .ensures .end), put-visit .kept .0 ∙ loop .inv .1)
+    let loop-test = c .before .before .before .before .before .before .before .before .loop-test in
+    (measure-on _ _ _ _ _ (next .result) (next .ensures) _ _ (loop .inv .0) (loop-test .taken) (c .before .before .before .before .before .if1 .left) (visit-short (args .listed) (records (args .it .now)) (records (args .sheet .now)) (next .result) (omega (arith, visit-deep _ (loop .left) _ _ (next .result) (next .ensures), loop .inv .0 .shallow))) (put-visit .ensures .end), put-visit .kept .0 ∙ loop .inv .1)
 
 same-length-2 : tie.Need-same-length-2 Inv-loop μ-loop
 same-length-2 c = c .before .loop .inv .1 ∙ sym (c .before .before .before .before .before .pre .2)

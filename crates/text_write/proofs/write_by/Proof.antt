@@ -15,7 +15,9 @@ returns : tie.Need-returns
 returns c = written-none _ _ _ (c .before .before .measure .ensures) (c .if1 .taken)
 
 fill-requires : tie.Need-fill-requires
-fill-requires c κs = (c .before .before .before .before .before .before .before .before .pre .0, c .before .before .before .before .before .before .before .before .pre .1, omega (arith, c .before .before .before .measure .ensures, c .before .if1 .left))
+fill-requires c κs =
+    let pre = c .before .before .before .before .before .before .before .before .pre in
+    (pre .0, pre .1, omega (arith, c .before .before .before .measure .ensures, c .before .if1 .left))
 
 same-length : tie.Need-same-length
 same-length c = search needs

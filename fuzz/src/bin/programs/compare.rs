@@ -9,8 +9,8 @@ use simulator::record::Itinerary;
 use simulator::table::{hidden, Table, TABLE_LENGTH};
 use std::process::Output;
 
-/// What `hubtext` writes to standard output on a fault.
-const ON_FAULT: &[u8] = b"";
+/// What `hubtext` writes to standard output on a fault: a byte, which is no itinerary.
+pub const ON_FAULT: &[u8] = b"\0";
 
 fn shown(bytes: &[u8]) -> String {
     let first = &bytes[..bytes.len().min(2000)];
@@ -31,10 +31,27 @@ fn wrote(program: &str, output: &Output, wanted: &[u8]) -> Result<(), String> {
     Ok(())
 }
 
+/// As many lines as starts, each with more after its start, in whatever words.
+fn lines_start(errors: &[u8], starts: &[String]) -> bool {
+    let lines: Vec<&[u8]> = errors.split_inclusive(|&byte| byte == b'\n').collect();
+    let right = |(line, start): (&&[u8], &String)| {
+        line.starts_with(start.as_bytes()) && line.ends_with(b"\n") && line.len() > start.len() + 1
+    };
+    lines.len() == starts.len() && lines.iter().zip(starts).all(right)
+}
+
 /// One line that names the line of the fault, in whatever words.
 fn names_line(errors: &[u8], line: usize) -> bool {
-    let lines = errors.iter().filter(|&&byte| byte == b'\n').count();
-    errors.starts_with(format!("line {line}: ").as_bytes()) && errors.ends_with(b"\n") && lines == 1
+    lines_start(errors, &[format!("line {line}: ")])
+}
+
+/// Nothing on standard output, and lines with these starts on standard error.
+fn told(program: &str, output: &Output, starts: &[String]) -> Result<(), String> {
+    if output.stdout.is_empty() && lines_start(&output.stderr, starts) && output.status.success() {
+        return Ok(());
+    }
+    let (stdout, stderr) = (shown(&output.stdout), shown(&output.stderr));
+    Err(format!("{program} wrote {stdout} and to standard error {stderr}\n  not nothing and {starts:?}"))
 }
 
 /// Text to bytes, and back if there is no fault; says whether there is one.
@@ -89,41 +106,68 @@ impl Bench {
 }
 
 /// Answers that a run has to meet, as `compare_bench` gives them.
-pub const ANSWERS: [&str; 9] = [
+pub const ANSWERS: [&str; 11] = [
     "hubscreen exposed",
     "hubscreen hinted",
     "hubscreen sealed",
     "hubscreen refused",
+    "hubshow no file",
     "hubshow refused",
     "hubshow text",
+    "hublist no file",
     "hublist refused",
     "hublist text",
     "hublist hidden",
 ];
 
-fn refusal(answer: &simulator::Answer) -> String {
-    format!("refused {} {}\n", answer.number, answer.record)
+/// What a program has to write: a text, or nothing but lines with these starts on standard error.
+enum Wanted {
+    Text(String),
+    Told(Vec<String>),
+}
+
+impl Wanted {
+    fn compare(&self, program: &str, output: &Output) -> Result<(), String> {
+        match self {
+            Wanted::Text(text) => wrote(program, output, text.as_bytes()),
+            Wanted::Told(starts) => told(program, output, starts),
+        }
+    }
+}
+
+/// The number, and the record if there is one.
+fn refusal(program: &str, answer: &simulator::Answer) -> Wanted {
+    let record = if answer.record == 0 { String::new() } else { format!(" at record {}", answer.record) };
+    Wanted::Told(vec![format!("{program}: refused {}{record}: ", answer.number)])
+}
+
+/// What is told of the files that aren't there, if any.
+fn missing(files: &[(&str, &Option<Vec<u8>>)]) -> Option<Wanted> {
+    let absent = files.iter().filter(|(_, content)| content.is_none());
+    let starts: Vec<String> = absent.map(|(file, _)| format!("{file}: ")).collect();
+    (!starts.is_empty()).then_some(Wanted::Told(starts))
 }
 
 /// The text, or the refusal.
-fn show(itinerary: &[u8]) -> (String, &'static str) {
+fn show(itinerary: &[u8]) -> (Wanted, &'static str) {
     match Itinerary::read(itinerary) {
-        Ok(read) => (text::write(&read), "hubshow text"),
-        Err(_) => (refusal(&simulator::validate(itinerary)), "hubshow refused"),
+        Ok(read) => (Wanted::Text(text::write(&read)), "hubshow text"),
+        Err(_) => (refusal("hubshow", &simulator::validate(itinerary)), "hubshow refused"),
     }
 }
 
 /// The tree with the marks of the made table, or the maker's refusal.
-fn list(itinerary: &[u8], policy: &[u8]) -> (String, &'static str) {
+fn list(itinerary: &[u8], policy: &[u8]) -> (Wanted, &'static str) {
     let mut table = Table { bytes: [0; TABLE_LENGTH] };
     let answer = simulator::maker(itinerary, policy, &mut table.bytes);
-    let Ok(read) = Itinerary::read(itinerary) else { return (refusal(&answer), "hublist refused") };
+    let refused = || (refusal("hublist", &answer), "hublist refused");
+    let Ok(read) = Itinerary::read(itinerary) else { return refused() };
     if answer.number != 0 {
-        return (refusal(&answer), "hublist refused");
+        return refused();
     }
     let listed = text::list(&read, &|number| hidden(&read, &table, number));
     let marked = listed.contains("hidden");
-    (listed, if marked { "hublist hidden" } else { "hublist text" })
+    (Wanted::Text(listed), if marked { "hublist hidden" } else { "hublist text" })
 }
 
 /// Runs the three programs; says in a word what each answered.
@@ -132,14 +176,17 @@ pub fn compare_bench(runs: &Runs, bench: &Bench) -> Result<Vec<String>, String> 
     for (file, content) in [("itinerary.bin", itinerary), ("policy.bin", policy), ("script.bin", script)] {
         runs.put(file, content.as_deref())?;
     }
+    let unshown = missing(&[("itinerary.bin", itinerary)]);
+    let unlisted = missing(&[("itinerary.bin", itinerary), ("policy.bin", policy)]);
     let [itinerary, policy, script] =
         [itinerary, policy, script].map(|file| file.as_deref().unwrap_or_default());
     let listing = hub::listing(itinerary, policy, script);
     wrote("hubscreen", &runs.run("hubscreen")?, listing.as_bytes())?;
-    let (text, text_answer) = show(itinerary);
-    wrote("hubshow", &runs.run("hubshow")?, text.as_bytes())?;
-    let (list, list_answer) = list(itinerary, policy);
-    wrote("hublist", &runs.run("hublist")?, list.as_bytes())?;
+    let (text, text_answer) = unshown.map_or_else(|| show(itinerary), |told| (told, "hubshow no file"));
+    text.compare("hubshow", &runs.run("hubshow")?)?;
+    let (list, list_answer) =
+        unlisted.map_or_else(|| list(itinerary, policy), |told| (told, "hublist no file"));
+    list.compare("hublist", &runs.run("hublist")?)?;
     let first = listing.split(' ').next().unwrap_or_default();
     Ok(vec![format!("hubscreen {first}"), text_answer.to_string(), list_answer.to_string()])
 }
