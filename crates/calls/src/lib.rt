@@ -87,7 +87,7 @@ pub fn make(it: &[u8], policy: &[u8], table: &mut [u8]) -> Made
     if let Checked::Refuse(r) = c {
         return Made::Refused(r);
     }
-    Made::Done(table_least::write_least(table, it, policy))
+    Made::Done(table_least::write_least(it, policy, table))
 }
 
 // The verdict, after the check.
@@ -98,7 +98,7 @@ pub fn verdict(it: &[u8], policy: &[u8], table: &[u8]) -> Judged
     if let Checked::Refuse(r) = c {
         return Judged::Refused(r);
     }
-    Judged::Done(verdicts::verdict_of(table, policy))
+    Judged::Done(verdicts::verdict_of(policy, table))
 }
 
 // The row of a label as that very part of the lent table; the empty part for any other label or length.

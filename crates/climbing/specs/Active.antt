@@ -9,7 +9,7 @@ use mathlib.Core.Logic.{_≢_}
 use mathlib.Core.Path.{_∙_, _≡_, ap, refl, sym}
 use native.Mathlib.Decide.{ℕ-discrete}
 use native.Mathlib.Omega.{arith}
-use Rattle.model.specs.Climbing.{standing, viewFrom}
+use Rattle.model.specs.Climbing.{ambientsOnly, viewFrom}
 use Rattle.model.specs.Laws.Bytes.{at-whole}
 use Rattle.model.specs.Laws.Containers.{ambient-and, not-ambient-and}
 use Rattle.model.specs.Laws.Updates.{at-root}
@@ -24,37 +24,37 @@ module _ (s : List ℕ) (m : length s % 8 ≡ 0) (i : ℕ) (r : Rec) (e : r ≡ 
   unfolding isAmbient
   ambient-pos t z = true≢false (sym t ∙ ap isAmbient (e ∙ ap (decode s) z ∙ sym (at-whole s m 0) ∙ at-root (records s)))
 
-  pub standing-on : (left : ℕ) → left ≢ 0 → isAmbient r ≡ true → viewFrom standing (records s) left i ≡ viewFrom standing (records s) (left - 1) (r .parent)
-  standing-on left n t = climb-on standing s left i m (ambient-pos t) n r e ∙ ambient-and _ _ t
+  pub only-on : (left : ℕ) → left ≢ 0 → isAmbient r ≡ true → viewFrom ambientsOnly (records s) left i ≡ viewFrom ambientsOnly (records s) (left - 1) (r .parent)
+  only-on left n t = climb-on ambientsOnly s left i m (ambient-pos t) n r e ∙ ambient-and _ _ t
 
-  pub standing-stop : (k : ℕ) → isAmbient r ≡ false → viewFrom standing (records s) k i ≡ eqb i 0
-  standing-stop k t = go (ℕ-discrete i 0) (ℕ-discrete k 0)
+  pub only-stop : (k : ℕ) → isAmbient r ≡ false → viewFrom ambientsOnly (records s) k i ≡ eqb i 0
+  only-stop k t = go (ℕ-discrete i 0) (ℕ-discrete k 0)
     where
-      go : Dec (i ≡ 0) → Dec (k ≡ 0) → viewFrom standing (records s) k i ≡ eqb i 0
-      go (yes z) _ = climb-top standing s k i z ∙ sym (eq-eqb i 0 z)
-      go (no z) (yes q) = climb-lost standing s k i z q ∙ sym (ne-eqb i 0 z)
-      go (no z) (no q) = climb-on standing s k i m z q r e ∙ not-ambient-and _ _ t ∙ sym (ne-eqb i 0 z)
+      go : Dec (i ≡ 0) → Dec (k ≡ 0) → viewFrom ambientsOnly (records s) k i ≡ eqb i 0
+      go (yes z) _ = climb-top ambientsOnly s k i z ∙ sym (eq-eqb i 0 z)
+      go (no z) (yes q) = climb-lost ambientsOnly s k i z q ∙ sym (ne-eqb i 0 z)
+      go (no z) (no q) = climb-on ambientsOnly s k i m z q r e ∙ not-ambient-and _ _ t ∙ sym (ne-eqb i 0 z)
 
 module _ (s : List ℕ) (m : length s % 8 ≡ 0) where
   -- one climb up
-  standing-up : (left i : ℕ) → left ≢ 0 → viewFrom standing (records s) left i ≡ viewFrom standing (records s) (left - 1) (upFrom s i)
+  only-up : (left i : ℕ) → left ≢ 0 → viewFrom ambientsOnly (records s) left i ≡ viewFrom ambientsOnly (records s) (left - 1) (upFrom s i)
   unfolding upFrom
-  standing-up left i n = go (isAmbient (decode s i)) refl
+  only-up left i n = go (isAmbient (decode s i)) refl
     where
-      go : (t : Bool) → isAmbient (decode s i) ≡ t → viewFrom standing (records s) left i ≡ viewFrom standing (records s) (left - 1) (elim t [ true ↦ decode s i .parent | false ↦ i ])
-      go true q = standing-on s m i _ refl left n q
-      go false q = standing-stop s m i _ refl left q ∙ sym (standing-stop s m i _ refl (left - 1) q)
+      go : (t : Bool) → isAmbient (decode s i) ≡ t → viewFrom ambientsOnly (records s) left i ≡ viewFrom ambientsOnly (records s) (left - 1) (elim t [ true ↦ decode s i .parent | false ↦ i ])
+      go true q = only-on s m i _ refl left n q
+      go false q = only-stop s m i _ refl left q ∙ sym (only-stop s m i _ refl (left - 1) q)
 
   -- four climbs from an ambient; a, b and c are the numbers between
-  pub standing-far : (left i : ℕ) (r : Rec) → r ≡ decode s i → isAmbient r ≡ true → 4 ≤ left → (a b c : ℕ) → a ≡ upFrom s (r .parent) → b ≡ upFrom s a → c ≡ upFrom s b →
-      viewFrom standing (records s) left i ≡ viewFrom standing (records s) (left - 4) c
-  standing-far left i r e t l a b c p q o =
+  pub only-far : (left i : ℕ) (r : Rec) → r ≡ decode s i → isAmbient r ≡ true → 4 ≤ left → (a b c : ℕ) → a ≡ upFrom s (r .parent) → b ≡ upFrom s a → c ≡ upFrom s b →
+      viewFrom ambientsOnly (records s) left i ≡ viewFrom ambientsOnly (records s) (left - 4) c
+  only-far left i r e t l a b c p q o =
       let u : left - 1 - 1 - 1 - 1 ≡ left - 4 = omega arith in
-      standing-on s m i r e left (λ z. omega arith) t
-      ∙ standing-up (left - 1) (r .parent) (λ z. omega arith) ∙ ap (viewFrom standing (records s) (left - 1 - 1)) (sym p)
-      ∙ standing-up (left - 1 - 1) a (λ z. omega arith) ∙ ap (viewFrom standing (records s) (left - 1 - 1 - 1)) (sym q)
-      ∙ standing-up (left - 1 - 1 - 1) b (λ z. omega arith) ∙ ap (viewFrom standing (records s) (left - 1 - 1 - 1 - 1)) (sym o)
-      ∙ ap (λ k. viewFrom standing (records s) k c) u
+      only-on s m i r e left (λ z. omega arith) t
+      ∙ only-up (left - 1) (r .parent) (λ z. omega arith) ∙ ap (viewFrom ambientsOnly (records s) (left - 1 - 1)) (sym p)
+      ∙ only-up (left - 1 - 1) a (λ z. omega arith) ∙ ap (viewFrom ambientsOnly (records s) (left - 1 - 1 - 1)) (sym q)
+      ∙ only-up (left - 1 - 1 - 1) b (λ z. omega arith) ∙ ap (viewFrom ambientsOnly (records s) (left - 1 - 1 - 1 - 1)) (sym o)
+      ∙ ap (λ k. viewFrom ambientsOnly (records s) k c) u
 
 module _ (s : List ℕ) (i : ℕ) (r : Rec) (e : r ≡ decode s i) where
   pub up-over : r .kind ≡ 1 → r .parent ≡ upFrom s i

@@ -3,7 +3,7 @@ use model::Rec;
 ghost use mathlib.Core.Path.{_≡_};
 ghost use Prim.Native.Nat.{_%_, _≤_};
 ghost use lib.ListN.{length};
-ghost use Rattle.model.specs.Climbing.{container, labelled, nearest, standing, viewFrom};
+ghost use Rattle.model.specs.Climbing.{container, labelled, nearest, ambientsOnly, viewFrom};
 ghost use Rattle.model.specs.Records.{records};
 ghost use Rattle.model.specs.Refusals.{pass};
 ghost use Rattle.model.specs.Validity.{validity};
@@ -66,7 +66,7 @@ fn up(it: &[u8], i: u16) -> u16
 // Whether number i and all records above it are ambients, with at most left climbs. Four climbs a call.
 pub fn ambients(it: &[u8], i: u16, left: usize) -> bool
     requires { ⌜ length (now it) % 8 ≡ 0 ⌝ }
-    ensures { λ r. ⌜ r ≡ viewFrom standing (records (now (it .entry))) left i ⌝ }
+    ensures { λ r. ⌜ r ≡ viewFrom ambientsOnly (records (now (it .entry))) left i ⌝ }
 {
     let r = records::record_at(it, i);
     if r.kind != 1 {

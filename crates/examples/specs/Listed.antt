@@ -13,7 +13,7 @@ use Rattle.examples.specs.Claims.{Meets, allLow, blankTable, classes, is
 use Rattle.model.specs.Analysis.{permitAll, holds, onlyIf, recordHolds, ruleHolds, rulesHold}
 use Rattle.model.specs.Calls.{checkAnswer, checking, comparing, entry, makeAfter, makeAnswer, making, outcomeCheck, runAfter, runAnswers, running, screenAnswer, screenAnswers, screening, stepAfter, stepAnswer, stepping, validateAnswer, verdictAnswer}
 use Rattle.model.specs.Climbing.{ambientAnd, hides, isSuspect, labelled, reaches, view, viewFrom}
-use Rattle.model.specs.Finite.{Each, digit, every, lowest, someOf, tabulate, tally}
+use Rattle.model.specs.Finite.{Each, oneIf, every, lowest, someOf, tabulate, tally}
 use Rattle.model.specs.Laws.Bit.{zero-bit}
 use Rattle.model.specs.Laws.Bytes.{valid-wf}
 use Rattle.model.specs.Laws.Checks.{all-pass, answer-done}
@@ -39,7 +39,7 @@ use Rattle.model.specs.declared.Verdict.{Verdict}
 
 -- what the examples compute with: to unfold this is to unfold all that its line names
 unfoldable pub computing : ℕ
-unfolding form entry comparing sizeRight kindRight spareRight blank goneRight labelIn labelBy labelRight nameBy nameRight parentRight recordCheck climbCheck validity count byteOf decode records tabulate at isAmbient nested viewFrom reaches need andThen eachOf view labelled capability every onlyIf ruleHolds rulesHold recordHolds holds isHigh placeI placeH placeS isIn someOf lowest marked alike joins grown growing reached opening inR isBoundary verdictBy verdictOf encode updateFrom ambientAnd placed place dissolved dissolve ready stands fit move decide outcomeBy outcome answerOf rewritten stepBytes outcomeCheck stepping stepAnswer stepAfter answer content stepIn stepsIn scriptRight afterList outcomes answersOf running runAfter runAnswers afterEvent after kept stepsOf allSteps givenBy given hides isSuspect sheet onSheet policyRight total bytes numeral digit ones onesIn validateAnswer screening tally notGone countsOf howMany doneBy kindOf screenAnswers contentOf digitsIn field lastField verdictWord endWord refusedWord stepLines endLine listing labelOf rec classes allLow recordsA itineraryA itineraryB itineraryC itineraryD itineraryE itineraryF itineraryG itineraryH
+unfolding form entry comparing sizeRight kindRight spareRight blank goneRight labelIn labelBy labelRight nameBy nameRight parentRight recordCheck climbCheck validity count byteOf decode records tabulate at isAmbient nested viewFrom reaches need andThen eachOf view labelled capability every onlyIf ruleHolds rulesHold recordHolds holds isHigh placeI placeH placeS isIn someOf lowest marked alike joins grown growing reached opening inR isBoundary verdictBy verdictOf encode updateFrom ambientAnd placed place dissolved dissolve ready stands fit move decide outcomeBy outcome answerOf rewritten stepBytes outcomeCheck stepping stepAnswer stepAfter answer content stepIn stepsIn scriptRight afterList outcomes answersOf running runAfter runAnswers afterEvent after kept stepsOf allSteps givenBy given hides isSuspect sheet onSheet policyRight total bytes numeral oneIf ones onesIn validateAnswer screening tally notGone countsOf howMany doneBy kindOf screenAnswers contentOf digitsIn field lastField verdictWord endWord refusedWord stepLines endLine listing labelOf rec classes allLow recordsA itineraryA itineraryB itineraryC itineraryD itineraryE itineraryF itineraryG itineraryH
 computing = 0
 
 unfoldable pub allBelow : ℕ → List ℕ → Bool
@@ -135,7 +135,7 @@ module _ {s policy xs : List ℕ} {ones : ℕ} {verdict : Verdict} (w : Listed s
         verdict = verdict;
         ones = ones;
         counts = countsOf (outcomes permitAll s (stepsIn z));
-        left = notGone (records (afterList permitAll s (stepsIn z)));
+        records = notGone (records (afterList permitAll s (stepsIn z)));
       })
   unfolding screenAnswer screening entry answer
   listed-screen z answers e =

@@ -38,20 +38,20 @@ step-put x y a h u v w =
 pub counts-few : (x : Screen) → length (countFields x) ≤ 24
 unfolding countFields
 counts-few x =
-    let left = lastField (x .left) [] in
+    let left = lastField (x .records) [] in
     let opens = field (x .counts .opens) left in
     let outs = field (x .counts .outs) opens in
-    omega (arith, field-length (x .counts .ins) outs, field-length (x .counts .ins) [], field-few (x .counts .ins), field-length (x .counts .outs) opens, field-length (x .counts .outs) [], field-few (x .counts .outs), field-length (x .counts .opens) left, field-length (x .counts .opens) [], field-few (x .counts .opens), last-few (x .left))
+    omega (arith, field-length (x .counts .ins) outs, field-length (x .counts .ins) [], field-few (x .counts .ins), field-length (x .counts .outs) opens, field-length (x .counts .outs) [], field-few (x .counts .outs), field-length (x .counts .opens) left, field-length (x .counts .opens) [], field-few (x .counts .opens), last-few (x .records))
 
 pub counts-put : (x : Screen) {t t₁ t₂ t₃ t₄ : List ℕ} {p e₁ e₂ e₃ e₄ : ℕ} → p + 24 ≤ length t →
-    Put t p (field (x .counts .ins) []) t₁ e₁ → Put t₁ e₁ (field (x .counts .outs) []) t₂ e₂ → Put t₂ e₂ (field (x .counts .opens) []) t₃ e₃ → Put t₃ e₃ (lastField (x .left) []) t₄ e₄ →
+    Put t p (field (x .counts .ins) []) t₁ e₁ → Put t₁ e₁ (field (x .counts .outs) []) t₂ e₂ → Put t₂ e₂ (field (x .counts .opens) []) t₃ e₃ → Put t₃ e₃ (lastField (x .records) []) t₄ e₄ →
     Put t p (countFields x) t₄ e₄
 unfolding countFields
 counts-put x h u v w y =
     let i = field-few (x .counts .ins) in
     let j = field-few (x .counts .outs) in
     let k = field-few (x .counts .opens) in
-    let l = last-few (x .left) in
+    let l = last-few (x .records) in
     put-as (simp (append-assoc, field-then))
     (put-then (put-then (put-then u v (omega (arith, u .end, v .end))) w (omega (arith, u .end, v .end, w .end))) y (omega (arith, u .end, v .end, w .end, y .end)))
 

@@ -12,7 +12,7 @@ stepLine actor partner answer = field actor (field partner (lastField answer [])
 
 -- "ins, outs, opens done, records not gone"
 unfoldable pub countFields : Screen → List ℕ
-countFields x = field (x .counts .ins) (field (x .counts .outs) (field (x .counts .opens) (lastField (x .left) [])))
+countFields x = field (x .counts .ins) (field (x .counts .outs) (field (x .counts .opens) (lastField (x .records) [])))
 
 -- what hubscreen writes of an itinerary, a policy and a script with room for its answers
 unfoldable pub shown : List ℕ → List ℕ → List ℕ → List ℕ → List ℕ

@@ -52,7 +52,7 @@ fn put_counts(text: &mut [u8], at: usize, s: Screen) -> usize
     let outs = text_put::put_field(text, at, c.ins);
     let opens = text_put::put_field(text, outs, c.outs);
     let left = text_put::put_field(text, opens, c.opens);
-    text_put::put_last(text, left, s.left)
+    text_put::put_last(text, left, s.records)
 }
 
 // Puts line one: verdict, its label (0 if sealed), bits set.

@@ -154,7 +154,7 @@ screenAnswer s policy script answers =
       verdict = verdictOf (parts (bits table)) policy;
       ones = total table;
       counts = countsOf (outcomes permitAll s (stepsIn script));
-      left = notGone (records (afterList permitAll s (stepsIn script)));
+      records = notGone (records (afterList permitAll s (stepsIn script)));
     })
 
 -- the lent itinerary after the screen

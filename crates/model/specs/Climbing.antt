@@ -58,12 +58,12 @@ unfoldable pub ambientAnd : Rec → Bool → Bool
 ambientAnd r x = elim (isAmbient r) [ true ↦ x | false ↦ false ]
 
 -- whether all are ambients
-abbrev pub standing : View Bool
-standing = record { top = true; lost = false; make = λ i. ambientAnd }
+abbrev pub ambientsOnly : View Bool
+ambientsOnly = record { top = true; lost = false; make = λ i. ambientAnd }
 
 -- number i and all records above it are ambients: 01's "active" asks this of a capability's parent (`ready`)
 abbrev pub ambients : List Rec → ℕ → Bool
-ambients its i = view standing its i
+ambients its i = view ambientsOnly its i
 
 -- "An ambient is suspect .. as its label is."
 unfoldable pub isSuspect : (ℕ → Bool) → Rec → Bool

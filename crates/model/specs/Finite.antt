@@ -26,14 +26,14 @@ tabulate i zero f = []
 tabulate i (suc n) f = f i ∷ tabulate (suc i) n f
 
 -- 1 for a test that passes, 0 for one that fails
-unfoldable pub digit : Bool → ℕ
-digit true = 1
-digit false = 0
+unfoldable pub oneIf : Bool → ℕ
+oneIf true = 1
+oneIf false = 0
 
 -- how many of the numbers 1 to n pass the test t
 unfoldable pub tally : (ℕ → Bool) → ℕ → ℕ
 tally t zero = 0
-tally t (suc n) = digit (t (suc n)) + tally t n
+tally t (suc n) = oneIf (t (suc n)) + tally t n
 
 -- two numbers differ
 abbrev pub unequal : ℕ → ℕ → Bool

@@ -3,7 +3,7 @@ use Prim.Native.Nat.{_*_, _+_, _^_, suc, zero, ℕ}
 use mathlib.Core.Bool.{Bool}
 use mathlib.Core.List.{List}
 use Rattle.model.specs.Analysis.{Permit, holds}
-use Rattle.model.specs.Finite.{digit, every, tabulate}
+use Rattle.model.specs.Finite.{oneIf, every, tabulate}
 use Rattle.model.specs.Tables.{parts, testBit}
 use Rattle.model.specs.declared.Rec.{Rec}
 
@@ -15,7 +15,7 @@ least n test j = every (2 ^ n) (λ c. test (testBit c)) (λ c. testBit c j)
 -- the number whose n bits are those of the set u from j on, the lowest first
 unfoldable pub numeral : (ℕ → Bool) → ℕ → ℕ → ℕ
 numeral u j zero = 0
-numeral u j (suc n) = digit (u j) + 2 * numeral u (suc j) n
+numeral u j (suc n) = oneIf (u j) + 2 * numeral u (suc j) n
 
 -- n bytes whose bits are the set u
 unfoldable pub bytes : ℕ → (ℕ → Bool) → List ℕ

@@ -53,7 +53,7 @@ stepLines (m ∷ ms) (a ∷ answers) rest = field (m .actor) (field (m .partner)
 
 -- "Last: ins, outs, opens done, records not gone."
 unfoldable pub endLine : Screen → List ℕ
-endLine x = endWord ++ field (x .counts .ins) (field (x .counts .outs) (field (x .counts .opens) (lastField (x .left) [])))
+endLine x = endWord ++ field (x .counts .ins) (field (x .counts .outs) (field (x .counts .opens) (lastField (x .records) [])))
 
 -- "Line one: verdict, its label (0 if sealed), bits set." "A refusal writes only one line": "number, record"
 unfoldable pub listing : Answer Screen → List Step → List ℕ → List ℕ

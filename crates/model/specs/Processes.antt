@@ -12,7 +12,7 @@ use mathlib.Core.Option.{some}
 use mathlib.Core.Path.{_≡_}
 use Rattle.model.specs.Analysis.{Permit, permitAll}
 use Rattle.model.specs.Calls.{stepAfter, stepAnswer, validateAnswer}
-use Rattle.model.specs.Finite.{digit}
+use Rattle.model.specs.Finite.{oneIf}
 use Rattle.model.specs.Noninterference.{Event, after, given}
 use Rattle.model.specs.Records.{Capability, at, cap-in, cap-open, cap-out, capability, isAmbient, parentOf, records}
 use Rattle.model.specs.Refusals.{done}
@@ -93,7 +93,7 @@ pub data Reads (its : List Rec) : ℕ → Process → Type 0 where
 
 -- 1 where two numbers are one, else 0
 unfoldable pub one : ℕ → ℕ → ℕ
-one i j = digit (eqb i j)
+one i j = oneIf (eqb i j)
 
 -- how often record j is read
 unfoldable pub times : {its : List Rec} {q : ℕ} {P : Process} → Reads its q P → ℕ → ℕ

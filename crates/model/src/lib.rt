@@ -94,7 +94,7 @@ pub struct Screen {
     pub verdict: Verdict,
     pub ones: u16,
     pub counts: Counts,
-    pub left: u16,
+    pub records: u16,
 }
 
 // The answer of the program's one call.

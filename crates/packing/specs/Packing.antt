@@ -74,5 +74,5 @@ rowResult table label = partResult (rowStart table label) (length (rowOf table l
 
 -- screen: the verdict and its label, the table's bits set, ins, outs and opens done, records not gone
 unfoldable pub screenResult : Answer Screen → HubScreenResult
-screenResult (done x) = record { number = 0; «record» = 0; verdict = verdictCode (x .verdict); label = labelOf (x .verdict); bits = x .ones; ins = x .counts .ins; outs = x .counts .outs; opens = x .counts .opens; records = x .left }
+screenResult (done x) = record { number = 0; «record» = 0; verdict = verdictCode (x .verdict); label = labelOf (x .verdict); bits = x .ones; ins = x .counts .ins; outs = x .counts .outs; opens = x .counts .opens; records = x .records }
 screenResult (refused n i) = record { number = n; «record» = i; verdict = 0; label = 0; bits = 0; ins = 0; outs = 0; opens = 0; records = 0 }

@@ -34,7 +34,7 @@ pub fn pack(v: Screened) -> HubScreenResult
                 ins: c.ins as u32,
                 outs: c.outs as u32,
                 opens: c.opens as u32,
-                records: s.left as u32,
+                records: s.records as u32,
             }
         }
         Screened::Refused(r) => HubScreenResult {

@@ -83,7 +83,7 @@ pub fn of_screened(s: Screened) -> Result {
                 v2: c.ins as u32,
                 v3: c.outs as u32,
                 v4: c.opens as u32,
-                v5: x.left as u32,
+                v5: x.records as u32,
             }
         }
     }

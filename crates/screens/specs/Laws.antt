@@ -25,13 +25,13 @@ module _ (s policy z a : List ℕ) where
   pub screen-done : screening s policy z a ≡ pass → (x : Screen) (t s′ a′ : List ℕ) → t ≡ leastTable permitAll policy (records s) → x .ones ≡ total t →
       x .verdict ≡ verdictOf (parts (bits t)) policy →
       (x .counts ≡ countsOf (outcomes permitAll s (stepsIn z))) × (s′ ≡ afterList permitAll s (stepsIn z)) × (a′ ≡ answersOf permitAll s (stepsIn z)) →
-      x .left ≡ notGone (records s′) → (done x ≡ screenAnswer s policy z a) × (s′ ≡ screenAfter s policy z a) × (a′ ≡ screenAnswers s policy z a)
+      x .records ≡ notGone (records s′) → (done x ≡ screenAnswer s policy z a) × (s′ ≡ screenAfter s policy z a) × (a′ ≡ screenAnswers s policy z a)
   unfolding screenAnswer screenAfter screenAnswers
   screen-done e x t s′ a′ et eo ev w el =
       let ones : x .ones ≡ total (leastTable permitAll policy (records s)) = eo ∙ ap total et in
       let verdict : x .verdict ≡ verdictOf (parts (bits (leastTable permitAll policy (records s)))) policy = ev ∙ ap (λ y. verdictOf (parts (bits y)) policy) et in
-      let left : x .left ≡ notGone (records (afterList permitAll s (stepsIn z))) = el ∙ ap (λ y. notGone (records y)) (w .1) in (
-        done-answer _ e (λ i. record { verdict = verdict i; ones = ones i; counts = w .0 i; left = left i }),
+      let left : x .records ≡ notGone (records (afterList permitAll s (stepsIn z))) = el ∙ ap (λ y. notGone (records y)) (w .1) in (
+        done-answer _ e (λ i. record { verdict = verdict i; ones = ones i; counts = w .0 i; records = left i }),
         w .1 ∙ content-new _ _ e,
         w .2 ∙ content-new _ _ e,
       )

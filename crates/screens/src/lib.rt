@@ -18,14 +18,14 @@ fn screen_with(
         × (now (it .exit) ≡ screenAfter (now (it .entry)) (now (policy .entry)) (now (script .entry)) (now (answers .entry)))
         × (now (answers .exit) ≡ screenAnswers (now (it .entry)) (now (policy .entry)) (now (script .entry)) (now (answers .entry))) ⌝ }
 {
-    let ones = table_least::write_least(table, it, policy);
-    let verdict = verdicts::verdict_of(table, policy);
+    let ones = table_least::write_least(it, policy, table);
+    let verdict = verdicts::verdict_of(policy, table);
     let counts = scripts::run(it, script, answers);
     Screen {
         verdict,
         ones,
         counts,
-        left: scripts::not_gone(it),
+        records: scripts::not_gone(it),
     }
 }
 

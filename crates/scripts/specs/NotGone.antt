@@ -5,7 +5,7 @@ use mathlib.Core.List.{List}
 use mathlib.Core.Path.{_∙_, _≡_, ap, refl, sym}
 use native.Mathlib.Numerals.{add-one}
 use native.Mathlib.Omega.{arith}
-use Rattle.model.specs.Finite.{digit, tally, unequal}
+use Rattle.model.specs.Finite.{oneIf, tally, unequal}
 use Rattle.model.specs.Laws.Bytes.{at-whole, length-records}
 use Rattle.model.specs.Records.{at, byteOf, count, decode, records}
 use Rattle.model.specs.Scripts.{notGone}
@@ -19,11 +19,11 @@ unfolding notGoneTo tally
 none-yet s = refl
 
 -- one record more
-pub one-more : (s : List ℕ) → length s % 8 ≡ 0 → (i sum k r : ℕ) → sum ≡ notGoneTo s i → k ≡ byteOf s (i + 1) 0 → r ≡ digit (unequal k 0) → sum + r ≡ notGoneTo s (i + 1)
+pub one-more : (s : List ℕ) → length s % 8 ≡ 0 → (i sum k r : ℕ) → sum ≡ notGoneTo s i → k ≡ byteOf s (i + 1) 0 → r ≡ oneIf (unequal k 0) → sum + r ≡ notGoneTo s (i + 1)
 unfolding notGoneTo tally decode
 one-more s w i sum k r e f g =
     let h : at (records s) (suc i) .kind ≡ k = ap (λ x. x .kind) (at-whole s w (suc i)) ∙ sym (f ∙ ap (λ j. byteOf s j 0) (add-one i)) in
-    let a : digit (unequal (at (records s) (suc i) .kind) 0) ≡ r = ap (λ x. digit (unequal x 0)) h ∙ sym g in
+    let a : oneIf (unequal (at (records s) (suc i) .kind) 0) ≡ r = ap (λ x. oneIf (unequal x 0)) h ∙ sym g in
     rw (add-one i) (omega arith)
 
 pub all-seen : (s : List ℕ) (i sum : ℕ) → i ≡ length s / 8 → sum ≡ notGoneTo s i → sum ≡ notGone (records s)

@@ -8,7 +8,7 @@ ghost use Prim.Native.Nat.{_%_, _+_, _<_, _≤_};
 ghost use mathlib.Core.Bool.{true};
 ghost use lib.ListN.{length};
 ghost use Rattle.model.specs.Analysis.{permitAll};
-ghost use Rattle.model.specs.Finite.{digit, unequal};
+ghost use Rattle.model.specs.Finite.{oneIf, unequal};
 ghost use Rattle.model.specs.Records.{byte, records, word};
 ghost use Rattle.model.specs.Numbers.{checkedAs};
 ghost use Rattle.model.specs.Refusals.{_▸_, need, pass};
@@ -104,7 +104,7 @@ pub fn run(it: &mut [u8], script: &[u8], answers: &mut [u8]) -> Counts
 
 // One for a kind that is not gone's.
 fn present(kind: u8) -> u16
-    ensures { λ r. ⌜ (r ≡ digit (unequal kind 0)) × (r ≤ 1) ⌝ }
+    ensures { λ r. ⌜ (r ≡ oneIf (unequal kind 0)) × (r ≤ 1) ⌝ }
 {
     if kind == 0 { 0 } else { 1 }
 }

@@ -38,7 +38,7 @@ fn count_ones(table: &[u8]) -> u16
 }
 
 // Writes the least table that holds, and counts its bits.
-pub fn write_least(table: &mut [u8], it: &[u8], policy: &[u8]) -> u16
+pub fn write_least(it: &[u8], policy: &[u8], table: &mut [u8]) -> u16
     requires { ⌜ length (now table) ≡ 1544 ⌝ }
     requires { ⌜ validity (now it) ≡ pass ⌝ }
     requires { ⌜ length (now policy) ≡ 64 ⌝ }

@@ -109,7 +109,7 @@ fn lowest_suspect(table: &[u8], r: [bool; 64]) -> Found
 }
 
 // The verdict on a table.
-pub fn verdict_of(table: &[u8], policy: &[u8]) -> Verdict
+pub fn verdict_of(policy: &[u8], table: &[u8]) -> Verdict
     requires { ⌜ length (now table) ≡ 1544 ⌝ }
     requires { ⌜ length (now policy) ≡ 64 ⌝ }
     ensures { λ v. ⌜ v ≡ verdictOf (parts (bits (now (table .entry)))) (now (policy .entry)) ⌝ }

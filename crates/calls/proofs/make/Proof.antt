@@ -36,7 +36,7 @@ unfolding madeAs
 returns-2 c =
     let q = c .before .before .write-least in
     let told = c .before .before .before .before in
-    make-done _ _ _ (q .last .0) (q .result) (passed _ _ (told .before .before .making .ensures) (told .enum-told .given .1)) (q .ensures .0) (q .ensures .1)
+    make-done _ _ _ (q .last .1 .1 .0) (q .result) (passed _ _ (told .before .before .making .ensures) (told .enum-told .given .1)) (q .ensures .0) (q .ensures .1)
 
 pub make-spec : {M : Type 1} → statement M
 make-spec =

@@ -5,13 +5,13 @@ use borrow.Fn.Kinds.{In}
 use borrow.Fn.PlainCycle.{Measures, and, falls, is}
 use mathlib.Core.Path.{_∙_, sym}
 use native.Mathlib.Omega.{arith}
-use Rattle.model.specs.Climbing.{standing}
+use Rattle.model.specs.Climbing.{ambientsOnly}
 use Rattle.climbing.proofs.ambients.Reads as ambients
 use Rattle.climbing.proofs.ambients.Kinds as ambients-kinds
 use Rattle.climbing.proofs.+ambients.Lts-ambients as ambients-lts
 use Rattle.records.proofs.record_at.Reads as record-at-reads
 use Rattle.records.specs.Climbs.{ambient-is, ambient-not, climb-lost}
-use Rattle.climbing.specs.Active.{ambient-pos, standing-far, standing-on, standing-stop}
+use Rattle.climbing.specs.Active.{ambient-pos, only-far, only-on, only-stop}
 use Rattle.climbing.proofs.up.Reads as up-reads
 use Rattle.climbing.proofs.+ambients.{statement}
 use Rattle.climbing.proofs.+ambients.Tie.{close}
@@ -44,7 +44,7 @@ ambients-returns : (t : ℕ) → ambients-lts.Need-returns (
   up-reads.Asked,
   up-reads.Learnt,
 ) (ambients-at t) ambients.Post
-ambients-returns t c = sym (standing-stop _ (c .before .before .before .before .pre .1) _ _ (c .before .before .record-at .ensures) _ (ambient-not _ (c .if1 .taken)))
+ambients-returns t c = sym (only-stop _ (c .before .before .before .before .pre .1) _ _ (c .before .before .record-at .ensures) _ (ambient-not _ (c .if1 .taken)))
 
 ambients-returns-2 : (t : ℕ) → ambients-lts.Need-returns-2 (
   record-at-reads.Asked,
@@ -54,7 +54,7 @@ ambients-returns-2 : (t : ℕ) → ambients-lts.Need-returns-2 (
   up-reads.Asked,
   up-reads.Learnt,
 ) (ambients-at t) ambients.Post
-ambients-returns-2 t c = sym (climb-lost standing _ _ _ (ambient-pos _ (c .before .before .before .before .before .pre .1) _ _ (c .before .before .before .record-at .ensures) (ambient-is _ (c .before .if1 .left))) (c .if2 .taken))
+ambients-returns-2 t c = sym (climb-lost ambientsOnly _ _ _ (ambient-pos _ (c .before .before .before .before .before .pre .1) _ _ (c .before .before .before .record-at .ensures) (ambient-is _ (c .before .if1 .left))) (c .if2 .taken))
 
 ambients-sub-ambients : (t : ℕ) → ambients-lts.Need-sub-ambients (
   record-at-reads.Asked,
@@ -84,7 +84,7 @@ ambients-returns-3 : (t : ℕ) → ambients-lts.Need-returns-3 (
   up-reads.Asked,
   up-reads.Learnt,
 ) (ambients-at t) ambients.Post
-ambients-returns-3 t c = c .ambients .ensures ∙ sym (standing-on _ (c .before .before .before .before .before .before .before .pre .1) _ _ (c .before .before .before .before .before .record-at .ensures) _ (c .before .before .if2 .left) (ambient-is _ (c .before .before .before .if1 .left)))
+ambients-returns-3 t c = c .ambients .ensures ∙ sym (only-on _ (c .before .before .before .before .before .before .before .pre .1) _ _ (c .before .before .before .before .before .record-at .ensures) _ (c .before .before .if2 .left) (ambient-is _ (c .before .before .before .if1 .left)))
 
 ambients-up-requires : (t : ℕ) → ambients-lts.Need-up-requires (
   record-at-reads.Asked,
@@ -136,7 +136,7 @@ ambients-returns-4 : (t : ℕ) → ambients-lts.Need-returns-4 (
 ) (ambients-at t) ambients.Post
 ambients-returns-4 t c =
     c .ambients2 .ensures
-    ∙ sym (standing-far _ (c .before .before .before .before .before .before .before .before .before .before .pre .1) _ _ _ (c .before .before .before .before .before .before .before .before .record-at .ensures) (ambient-is _ (c .before .before .before .before .before .before .if1 .left)) (omega arith) _ _ _ (c .before .before .before .up .ensures) (c .before .before .up2 .ensures) (c .before .up3 .ensures))
+    ∙ sym (only-far _ (c .before .before .before .before .before .before .before .before .before .before .pre .1) _ _ _ (c .before .before .before .before .before .before .before .before .record-at .ensures) (ambient-is _ (c .before .before .before .before .before .before .if1 .left)) (omega arith) _ _ _ (c .before .before .before .up .ensures) (c .before .before .up2 .ensures) (c .before .up3 .ensures))
 
 pub +ambients-spec : {M : Type 1} → statement M
 +ambients-spec = close μ-ambients λ t. ambients-lts.spec (

@@ -34,7 +34,7 @@ put-last-requires c κs =
     let ins = outs .before .before .before .before in
     let start = ins .before .before .before .before in
     let s = start .args .s in
-    omega (arith, start .pre, field-few (s .counts .ins), field-few (s .counts .outs), field-few (s .counts .opens), last-few (s .left), ins .put-field .ensures .end, ins .put-field .kept .0, outs .put-field2 .ensures .end, outs .put-field2 .kept .0, opens .put-field3 .ensures .end, opens .put-field3 .kept .0)
+    omega (arith, start .pre, field-few (s .counts .ins), field-few (s .counts .outs), field-few (s .counts .opens), last-few (s .records), ins .put-field .ensures .end, ins .put-field .kept .0, outs .put-field2 .ensures .end, outs .put-field2 .kept .0, opens .put-field3 .ensures .end, opens .put-field3 .kept .0)
 
 same-length : tie.Need-same-length
 same-length c = search needs

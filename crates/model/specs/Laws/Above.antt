@@ -6,7 +6,7 @@ use mathlib.Core.Logic.{_≢_}
 use mathlib.Core.Path.{_∙_, _≡_, ap, refl, sym}
 use native.Mathlib.Decide.{ℕ-discrete}
 use native.Mathlib.Omega.{arith}
-use Rattle.model.specs.Climbing.{ambients, climb, hidden, isSuspect, nearest, nesting, standing}
+use Rattle.model.specs.Climbing.{ambients, climb, hidden, isSuspect, nearest, nesting, ambientsOnly}
 use Rattle.model.specs.Laws.Containers.{ambient-and, ambients-here, hidden-root, hidden-suspect, hidden-up, nearest-amb, nearest-up}
 use Rattle.model.specs.Laws.Forest.{Depth, root, under}
 use Rattle.model.specs.Laws.Updates.{at-root}
@@ -48,15 +48,15 @@ module _ {its : List Rec} (wf : WellFormed its) where
   ambients-use (suc k) i h z = ambients-use k (parentOf its i) (go (ℕ-discrete i 0)) z
     where
       go : Dec (i ≡ 0) → ambients its (parentOf its i) ≡ true
-      go (yes e) = ap (λ (x : ℕ). ambients its (parentOf its x)) e ∙ ap (λ (r : Rec). ambients its (r .parent)) (at-root its) ∙ view-top standing wf
-      go (no e) = sym (view-on standing wf i e ∙ ambient-and _ _ (ambients-here wf i e h)) ∙ h
+      go (yes e) = ap (λ (x : ℕ). ambients its (parentOf its x)) e ∙ ap (λ (r : Rec). ambients its (r .parent)) (at-root its) ∙ view-top ambientsOnly wf
+      go (no e) = sym (view-on ambientsOnly wf i e ∙ ambient-and _ _ (ambients-here wf i e h)) ∙ h
 
   pub ambients-make : (i : ℕ) → ((k : ℕ) → climb (parentOf its) k i ≢ 0 → isAmbient (from i k) ≡ true) → ambients its i ≡ true
   ambients-make i f = go (wf .reach i .1) f
     where
       go : {j d : ℕ} → Depth (parentOf its) j d → ((k : ℕ) → climb (parentOf its) k j ≢ 0 → isAmbient (from j k) ≡ true) → ambients its j ≡ true
-      go root g = view-top standing wf
-      go (under {i = j} z r) g = view-on standing wf j z ∙ ambient-and _ _ (g 0 z) ∙ go r (λ k. g (suc k))
+      go root g = view-top ambientsOnly wf
+      go (under {i = j} z r) g = view-on ambientsOnly wf j z ∙ ambient-and _ _ (g 0 z) ∙ go r (λ k. g (suc k))
 
   -- "the label of the nearest ambient above it": the first that climbing meets
   pub nearest-is : (k i : ℕ) → isAmbient (from i k) ≡ true → ((j : ℕ) → j < k → isAmbient (from i j) ≡ false) → nearest its i ≡ from i k .label

@@ -11,7 +11,7 @@ use native.Mathlib.Nat.{div-div-eq-div-mul, div-eq-of-lt, div-one, le-of-suc-le-
 use native.Mathlib.Omega.{arith}
 use Rattle.model.specs.Tables.{testBit}
 
--- a digit is 0 or 1
+-- a oneIf is 0 or 1
 data Digit : ℕ → Type 0 where
   d0 : Digit 0
   d1 : Digit 1

@@ -25,7 +25,7 @@ use Rattle.model.specs.declared.Rec.{Rec}
 use Rattle.model.specs.declared.Verdict.the-variants.{Sealed}
 
 -- what a sealed verdict says of a table and a policy
-pub record Closed (T : Table) (policy : List ℕ) : Type 0 where
+pub record SealedOff (T : Table) (policy : List ℕ) : Type 0 where
   pub start : inR T policy 0 ≡ true
   pub next : (x k : ℕ) → x < 64 → k < 64 → inR T policy x ≡ true → isBoundary policy x ≡ false → T .I x k ≡ true → inR T policy k ≡ true
   pub apart : (k : ℕ) → k < 64 → T .S k ≡ true → inR T policy k ≡ false
@@ -49,7 +49,7 @@ module _ (T : Table) (policy : List ℕ) where
   unfolding inR opening
   R-least X z f = reached-inside 64 (opening T policy) X z (λ x k lx lk h e. f x k lx lk h (not-true _ (and-right (T .I x k) _ e)) (and-left _ _ e))
 
-  pub sealed-closed : verdictOf T policy ≡ Sealed → Closed T policy
+  pub sealed-closed : verdictOf T policy ≡ Sealed → SealedOff T policy
   unfolding verdictOf verdictBy
   sealed-closed v = record { start = R-start; next = R-next; apart = go (lowest high 0 64) (lowest both 0 64) refl v }
     where
@@ -65,7 +65,7 @@ module _ (T : Table) (policy : List ℕ) where
       go none none e w k l s = clear (inR T policy k) (T .S k) (lowest-none both 0 64 e k (omega arith) l) s
 
 -- the environment is not suspect
-pub environment-clear : {T : Table} {policy : List ℕ} → Closed T policy → T .S 0 ≡ false
+pub environment-clear : {T : Table} {policy : List ℕ} → SealedOff T policy → T .S 0 ≡ false
 environment-clear {T} {policy} z = go (T .S 0) refl
   where
     go : (t : Bool) → T .S 0 ≡ t → t ≡ false
@@ -75,7 +75,7 @@ environment-clear {T} {policy} z = go (T .S 0) refl
 abbrev Bounded : List ℕ → List Rec → ℕ → Type 0
 Bounded policy its j = (isAmbient (at its j) ≡ true) × (isBoundary policy (at its j .label) ≡ true)
 
-module _ {permit : Permit} {policy : List ℕ} {T : Table} (z : Closed T policy) (low : isBoundary policy 0 ≡ false) {its : List Rec} (wf : WellFormed its) (holds : Holds permit policy its T) where
+module _ {permit : Permit} {policy : List ℕ} {T : Table} (z : SealedOff T policy) (low : isBoundary policy 0 ≡ false) {its : List Rec} (wf : WellFormed its) (holds : Holds permit policy its T) where
   Free : ℕ → Type 0
   Free i = (inR T policy (nearest its i) ≡ true) × (isBoundary policy (nearest its i) ≡ false)
 

@@ -6,7 +6,7 @@ use mathlib.Core.Logic.{_≢_}
 use mathlib.Core.Path.{_∙_, _≡_, ap, refl, sym}
 use native.Mathlib.Decide.{ℕ-discrete}
 use native.Mathlib.Omega.{arith}
-use Rattle.model.specs.Climbing.{ambientAnd, ambients, container, hidden, hides, hiding, isSuspect, labelled, nearest, nesting, standing}
+use Rattle.model.specs.Climbing.{ambientAnd, ambients, container, hidden, hides, hiding, isSuspect, labelled, nearest, nesting, ambientsOnly}
 use Rattle.model.specs.Laws.Done.{amb-alive}
 use Rattle.model.specs.Laws.Forest.{Depth, root, under}
 use Rattle.model.specs.Laws.Updates.{at-root}
@@ -99,7 +99,7 @@ module _ {its : List Rec} (wf : WellFormed its) where
     where
       go : (t : Bool) → isAmbient (at its i) ≡ t → t ≡ true
       go true e = refl
-      go false e = sym (view-on standing wf i z ∙ not-ambient-and _ _ e) ∙ h
+      go false e = sym (view-on ambientsOnly wf i z ∙ not-ambient-and _ _ e) ∙ h
 
   -- where only ambients stand above, the container is the parent's label
   pub ambients-nearest : (i : ℕ) → ambients its i ≡ true → nearest its i ≡ at its i .label

@@ -7,7 +7,7 @@ use mathlib.Core.Logic.{_≢_}
 use mathlib.Core.Path.{_∙_, _≡_, ap, refl, subst, sym}
 use native.Mathlib.Decide.{ℕ-discrete}
 use native.Mathlib.Omega.{arith}
-use Rattle.model.specs.Finite.{digit, tally}
+use Rattle.model.specs.Finite.{oneIf, tally}
 
 -- i stands d climbs below the root
 pub data Depth (p : ℕ → ℕ) : ℕ → ℕ → Type 0 where
@@ -21,15 +21,15 @@ module _ {p : ℕ → ℕ} where
   depth-unique (under h r) root = absurd (h refl)
   depth-unique (under h r) (under h′ r′) = ap suc (depth-unique r r′)
 
-pub digit-le : (b : Bool) → digit b ≤ 1
-unfolding digit
-digit-le true = omega arith
-digit-le false = omega arith
+pub oneIf-le : (b : Bool) → oneIf b ≤ 1
+unfolding oneIf
+oneIf-le true = omega arith
+oneIf-le false = omega arith
 
 pub tally-le : (f : ℕ → Bool) (n : ℕ) → tally f n ≤ n
 unfolding tally
 tally-le f zero = omega arith
-tally-le f (suc n) = omega (arith, tally-le f n, digit-le (f (suc n)))
+tally-le f (suc n) = omega (arith, tally-le f n, oneIf-le (f (suc n)))
 
 pub tally-same : (f g : ℕ → Bool) (n : ℕ) → ((x : ℕ) → x ≤ n → f x ≡ g x) → tally f n ≡ tally g n
 unfolding tally
@@ -44,11 +44,11 @@ unfolding mark
 mark-other f j x h = rw (ne-eqb x j h)
 
 pub tally-mark : (f : ℕ → Bool) (j n : ℕ) → j ≢ 0 → j ≤ n → f j ≡ false → tally (mark j f) n ≡ suc (tally f n)
-unfolding tally mark digit
+unfolding tally mark oneIf
 tally-mark f j zero z l e = absurd (z (omega arith))
 tally-mark f j (suc n) z l e = go (eqb (suc n) j) refl (λ h. tally-mark f j n z h e)
   where
-    go : (t : Bool) → eqb (suc n) j ≡ t → (j ≤ n → tally (mark j f) n ≡ suc (tally f n)) → digit (mark j f (suc n)) + tally (mark j f) n ≡ suc (digit (f (suc n)) + tally f n)
+    go : (t : Bool) → eqb (suc n) j ≡ t → (j ≤ n → tally (mark j f) n ≡ suc (tally f n)) → oneIf (mark j f (suc n)) + tally (mark j f) n ≡ suc (oneIf (f (suc n)) + tally f n)
     go true q ih =
         let w : f (suc n) ≡ false = rw (eqb-true (suc n) j q) e in
         rw (q, w, tally-same (mark j f) f n (λ x l′. mark-other f j x (λ u. omega (arith, eqb-true (suc n) j q)))) (omega arith)

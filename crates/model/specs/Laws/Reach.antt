@@ -66,7 +66,7 @@ module _ (m : ℕ) (edge : ℕ → ℕ → Bool) where
   more : (R : List Bool) → length R ≡ m → alike R (grown m edge R) ≡ false → trues R < trues (grown m edge R)
   more R l e = trues-grow R (grown m edge R) (l ∙ sym (grown-length R)) (grown-keeps R l) .1 e
 
-  record Closed (R : List Bool) : Type 0 where
+  record Stable (R : List Bool) : Type 0 where
     size : length R ≡ m
     stable : alike R (grown m edge R) ≡ true
 
@@ -78,7 +78,7 @@ module _ (m : ℕ) (edge : ℕ → ℕ → Bool) where
   unfolding growing
   growing-go n R e = rw (e, growing)
 
-  growing-closed : (n : ℕ) (R : List Bool) → length R ≡ m → m ≤ trues R + n → Closed (growing m edge n R)
+  growing-closed : (n : ℕ) (R : List Bool) → length R ≡ m → m ≤ trues R + n → Stable (growing m edge n R)
   unfolding growing
   growing-closed zero R l q = record { size = l; stable = go (alike R (grown m edge R)) refl }
     where
@@ -87,7 +87,7 @@ module _ (m : ℕ) (edge : ℕ → ℕ → Bool) where
       go false e = absurd (omega (arith, more R l e, trues-le (grown m edge R), grown-length R))
   growing-closed (suc n) R l q = go (alike R (grown m edge R)) refl (growing-closed n (grown m edge R) (grown-length R))
     where
-      go : (t : Bool) → alike R (grown m edge R) ≡ t → (m ≤ trues (grown m edge R) + n → Closed (growing m edge n (grown m edge R))) → Closed (growing m edge (suc n) R)
+      go : (t : Bool) → alike R (grown m edge R) ≡ t → (m ≤ trues (grown m edge R) + n → Stable (growing m edge n (grown m edge R))) → Stable (growing m edge (suc n) R)
       go true e ih = rw (growing-stop n R e) (record { size = l; stable = e })
       go false e ih = rw (growing-go n R e) (ih (omega (arith, more R l e)))
 
@@ -103,7 +103,7 @@ module _ (m : ℕ) (edge : ℕ → ℕ → Bool) where
   begin-length : length (tabulate 0 m (λ k. eqb k 0)) ≡ m
   begin-length = length-tabulate _ 0 m
 
-  reached-closed : Closed (reached m edge)
+  reached-closed : Stable (reached m edge)
   unfolding reached
   reached-closed = growing-closed m _ begin-length (omega arith)
 

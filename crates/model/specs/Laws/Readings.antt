@@ -14,9 +14,9 @@ use mathlib.Core.Option.{some}
 use mathlib.Core.Path.{_∙_, _≡_, ap, ap₂, refl, subst, sym}
 use native.Mathlib.Decide.{decLe, ℕ-discrete}
 use native.Mathlib.Omega.{arith}
-use Rattle.model.specs.Finite.{digit}
+use Rattle.model.specs.Finite.{oneIf}
 use Rattle.model.specs.Laws.Done.{amb-alive, cap-alive, cap-not-amb, same-amb}
-use Rattle.model.specs.Laws.Forest.{digit-le}
+use Rattle.model.specs.Laws.Forest.{oneIf-le}
 use Rattle.model.specs.Laws.WellFormed.{Alive, SameBut, same-of, same-to}
 use Rattle.model.specs.Processes.{Congruent, Head, Process, Reads, Says, _·_, _‖_, ambient, associates, both, commutes, end, inside, nothing, one, cap, parallel, read, reflexive, says-ambient, says-cap, symmetric, times, transitive, unit}
 use Rattle.model.specs.Records.{Capability, at, capability, isAmbient, parentOf}
@@ -24,11 +24,11 @@ use Rattle.model.specs.Steps.{to}
 use Rattle.model.specs.declared.Rec.{Rec}
 
 pub one-same : (i j : ℕ) → i ≡ j → one i j ≡ 1
-unfolding one digit
+unfolding one oneIf
 one-same i j e = rw (eq-eqb i j e)
 
 pub one-other : (i j : ℕ) → i ≢ j → one i j ≡ 0
-unfolding one digit
+unfolding one oneIf
 one-other i j e = rw (ne-eqb i j e)
 
 pub one-self : (i : ℕ) → one i i ≡ 1
@@ -36,7 +36,7 @@ one-self i = one-same i i refl
 
 pub one-le : (i j : ℕ) → one i j ≤ 1
 unfolding one
-one-le i j = digit-le (eqb i j)
+one-le i j = oneIf-le (eqb i j)
 
 pub differ : (i j : ℕ) → one i j ≡ 0 → i ≢ j
 differ i j z e = omega (arith, z, one-same i j e)

@@ -12,7 +12,7 @@ use mathlib.Core.Path.{_∙_, _≡_, ap, refl, subst, sym}
 use native.Mathlib.Decide.{decLe}
 use native.Mathlib.Omega.{arith}
 use Rattle.model.specs.Analysis.{Permit}
-use Rattle.model.specs.Climbing.{ambients, standing, view}
+use Rattle.model.specs.Climbing.{ambients, ambientsOnly, view}
 use Rattle.model.specs.Laws.Containers.{ambient-and, ambients-here}
 use Rattle.model.specs.Laws.Done.{Done, amb-alive, cap-alive, done-other, in-beside, in-holder, in-live, in-other, open-beside, out-above, out-holder, out-live, outcome-done}
 use Rattle.model.specs.Laws.Forest.{Depth, root, under}
@@ -37,10 +37,10 @@ record Found (permit : Permit) (its : List Rec) (q : ℕ) (N : ℕ → ℕ) (Q :
 
 module _ {its : List Rec} (wf : WellFormed its) where
   ambients-down : (a : ℕ) {q : ℕ} → isAmbient (at its a) ≡ true → parentOf its a ≡ q → ambients its q ≡ true → ambients its a ≡ true
-  ambients-down a h e u = view-on standing wf a (alive-pos its a (amb-alive its a h)) ∙ ambient-and _ _ h ∙ ap (view standing its) e ∙ u
+  ambients-down a h e u = view-on ambientsOnly wf a (alive-pos its a (amb-alive its a h)) ∙ ambient-and _ _ h ∙ ap (view ambientsOnly its) e ∙ u
 
   ambients-up : (i : ℕ) → i ≢ 0 → ambients its i ≡ true → ambients its (parentOf its i) ≡ true
-  ambients-up i z h = sym (view-on standing wf i z ∙ ambient-and _ _ (ambients-here wf i z h)) ∙ h
+  ambients-up i z h = sym (view-on ambientsOnly wf i z ∙ ambient-and _ _ (ambients-here wf i z h)) ∙ h
 
 module _ {permit : Permit} {its : List Rec} (wf : WellFormed its) where
   module _ (b c : ℕ) {q a l t m : ℕ} (pb : parentOf its b ≡ q) (pc : parentOf its c ≡ a) (sb : Says (at its b) (ambient l m)) where
@@ -249,6 +249,6 @@ module _ {permit : Permit} {its : List Rec} (wf : WellFormed its) {P : Process} 
   pub reduction-steps : {Q : Process} → Reduces permit 0 P Q → (k : Capability) × (c : ℕ) × (b : ℕ) × (outcome permit its c b ≡ done-by k) × Means (step permit its c b) Q
   unfolding step effect
   reduction-steps x =
-      let w = found wf x 0 (m .reading) (means-whole m .once) (ap (λ r. r .label) (at-root its)) (view-top standing wf) in
+      let w = found wf x 0 (m .reading) (means-whole m .once) (ap (λ r. r .label) (at-root its)) (view-top ambientsOnly wf) in
       let e = done-outcome (w .done) in
       (w .k, w .c, w .b, e, rw (e, effect) (after-means m (w .left) (move-before wf (w .k) (w .done))))

@@ -11,7 +11,7 @@ use native.Mathlib.Omega.{arith}
 use Rattle.model.specs.Analysis.{Permit, permitAll}
 use Rattle.model.specs.Calls.{checkAnswer, checking, comparing, entry, sheetAfter, showing, verdictAnswer}
 use Rattle.model.specs.Finite.{every}
-use Rattle.model.specs.Laws.Boundary.{Closed, environment-clear, sealed-closed, suspect-guarded}
+use Rattle.model.specs.Laws.Boundary.{SealedOff, environment-clear, sealed-closed, suspect-guarded}
 use Rattle.model.specs.Laws.Bytes.{records-encode, valid-wf}
 use Rattle.model.specs.Laws.Checks.{all-pass, answer-done, answer-value, passes}
 use Rattle.model.specs.Laws.Done.{list-valid, step-records, step-valid}
@@ -151,7 +151,7 @@ noninterference policy table x y size hx hy v same es = record {
     ay : Accepted y policy table
     ay = accepted y policy table hy
 
-    z : Closed T policy
+    z : SealedOff T policy
     z = sealed-closed T policy (answer-value (checking x policy table) _ Sealed v)
 
     clear : T .S 0 ≡ false

@@ -10,10 +10,10 @@ use mathlib.Core.Path.{_∙_, _≡_, ap, ap₂, refl, sym}
 use native.Mathlib.Decide.{decLt}
 use native.Mathlib.Nat.{add-suc, add-zero, pow-suc, suc-add, zero-add}
 use native.Mathlib.Omega.{arith}
-use Rattle.model.specs.Finite.{digit}
+use Rattle.model.specs.Finite.{oneIf}
 use Rattle.model.specs.Laws.Bit.{bits-ext, half-bit, high-bit, lowest-bit}
 use Rattle.model.specs.Laws.Finite.{every-make, every-use, getD-tabulate, length-tabulate}
-use Rattle.model.specs.Laws.Forest.{digit-le}
+use Rattle.model.specs.Laws.Forest.{oneIf-le}
 use Rattle.model.specs.Least.{bytes, least, numeral}
 use Rattle.model.specs.Records.{byte}
 use Rattle.model.specs.Tables.{bitAt, bits, testBit}
@@ -22,26 +22,26 @@ use Rattle.model.specs.Tables.{bitAt, bits, testBit}
 abbrev pub Narrow : ℕ → List ℕ → Type 0
 Narrow m xs = (i : ℕ) → byte xs i < 2 ^ m
 
-digit-is : (b : Bool) (w : ℕ) → w ≡ digit b → eqb w 1 ≡ b
-unfolding digit
-digit-is true w e = eq-eqb w 1 e
-digit-is false w e = ne-eqb w 1 (λ u. omega arith)
+oneIf-is : (b : Bool) (w : ℕ) → w ≡ oneIf b → eqb w 1 ≡ b
+unfolding oneIf
+oneIf-is true w e = eq-eqb w 1 e
+oneIf-is false w e = ne-eqb w 1 (λ u. omega arith)
 
 module _ (u : ℕ → Bool) where
   pub numeral-lt : (j n : ℕ) → numeral u j n < 2 ^ n
   unfolding numeral
   numeral-lt j zero = omega arith
-  numeral-lt j (suc n) = omega (arith, numeral-lt (suc j) n, digit-le (u j), pow-suc 2 n)
+  numeral-lt j (suc n) = omega (arith, numeral-lt (suc j) n, oneIf-le (u j), pow-suc 2 n)
 
   pub numeral-bit : (j n k : ℕ) → k < n → testBit (numeral u j n) k ≡ u (j + k)
   unfolding numeral
   numeral-bit j zero k l = absurd (omega arith)
   numeral-bit j (suc n) zero l =
-      let e : (digit (u j) + 2 * numeral u (suc j) n) % 2 ≡ digit (u j) = omega (arith, digit-le (u j)) in
-      lowest-bit (digit (u j) + 2 * numeral u (suc j) n) ∙ digit-is (u j) _ e ∙ ap u (sym (add-zero j))
+      let e : (oneIf (u j) + 2 * numeral u (suc j) n) % 2 ≡ oneIf (u j) = omega (arith, oneIf-le (u j)) in
+      lowest-bit (oneIf (u j) + 2 * numeral u (suc j) n) ∙ oneIf-is (u j) _ e ∙ ap u (sym (add-zero j))
   numeral-bit j (suc n) (suc k) l =
-      let e : (digit (u j) + 2 * numeral u (suc j) n) / 2 ≡ numeral u (suc j) n = omega (arith, digit-le (u j)) in
-      sym (half-bit (digit (u j) + 2 * numeral u (suc j) n) k)
+      let e : (oneIf (u j) + 2 * numeral u (suc j) n) / 2 ≡ numeral u (suc j) n = omega (arith, oneIf-le (u j)) in
+      sym (half-bit (oneIf (u j) + 2 * numeral u (suc j) n) k)
       ∙ ap (λ v. testBit v k) e
       ∙ numeral-bit (suc j) n k (omega arith) ∙ ap u (suc-add j k ∙ sym (add-suc j k))
 

@@ -6,7 +6,7 @@ use mathlib.Core.Logic.{_≢_}
 use mathlib.Core.Option.{Option, none, some}
 use mathlib.Core.Path.{_∙_, _≡_, ap, refl, sym}
 use Rattle.model.specs.Analysis.{Permit}
-use Rattle.model.specs.Climbing.{ambientAnd, ambients, hidden, isSuspect, standing}
+use Rattle.model.specs.Climbing.{ambientAnd, ambients, hidden, isSuspect, ambientsOnly}
 use Rattle.model.specs.Laws.Containers.{hidden-suspect, hidden-up, suspect-not-amb}
 use Rattle.model.specs.Laws.Done.{Done, Stays, amb-alive, cap-alive, cap-not-amb, done-of, done-other, move-length, open-beside, outcome-done}
 use Rattle.model.specs.Laws.Hiding.{move-hidden}
@@ -74,7 +74,7 @@ module _ {permit : Permit} {policy : List ℕ} {T : Table} {its : List Rec} (wf 
 -- the tests of a step by a shown actor answer alike on the sheet
 module _ {its : List Rec} (wf : WellFormed its) (S : ℕ → Bool) where
   same-ambients : (q : ℕ) → hidden its S q ≡ false → ambients its q ≡ ambients (sheet its S) q
-  same-ambients q h = fold-carry _≡_ refl (view-laws standing wf) (view-laws standing (sheet-wf wf S)) (λ i. hidden its S i ≡ false)
+  same-ambients q h = fold-carry _≡_ refl (view-laws ambientsOnly wf) (view-laws ambientsOnly (sheet-wf wf S)) (λ i. hidden its S i ≡ false)
       (λ i n _. rw (sheet-parent wf S i n) (shown-parent wf S i n))
       (λ i n _ ih. ap (λ r. ambientAnd r (ambients its (parentOf its i))) (sym (sheet-shown its S i n))
       ∙ ap (λ j. ambientAnd (at (sheet its S) i) (ambients its j)) (sym (sheet-parent wf S i n)) ∙ ap (ambientAnd (at (sheet its S) i)) ih) h (sheet-wf wf S .reach q .1)

@@ -54,7 +54,7 @@ returns c =
     let judged = ran .before .before .before in
     let made = judged .before .before .before .before in
     let known = made .before .before .before .before .before in
-    screen-done _ _ _ _ (known .before .before .before .pre .1) _ (made .write-least .last .0) _ _
+    screen-done _ _ _ _ (known .before .before .before .pre .1) _ (made .write-least .last .1 .1 .0) _ _
     (made .write-least .ensures .0) (made .write-least .ensures .1) (judged .verdict-of .ensures) (ran .run .ensures) (c .not-gone .ensures)
 
 pub screen-with-spec : {M : Type 1} → statement M

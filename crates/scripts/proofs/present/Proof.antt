@@ -3,17 +3,17 @@ use mathlib.Core.Path.{sym, ap}
 use mathlib.Core.Bool.{not}
 use native.Mathlib.Omega.{arith}
 use borrow.Author.Tests.{eq-eqb, ne-eqb}
-use Rattle.model.specs.Finite.{digit}
+use Rattle.model.specs.Finite.{oneIf}
 use Rattle.scripts.proofs.present.Statement.{statement}
 use Rattle.scripts.proofs.present.Tie as tie
 
 returns : tie.Need-returns
-unfolding digit
-returns c = (sym (ap (λ b. digit (not b)) (eq-eqb _ _ (c .if1 .taken))), omega arith)
+unfolding oneIf
+returns c = (sym (ap (λ b. oneIf (not b)) (eq-eqb _ _ (c .if1 .taken))), omega arith)
 
 returns-2 : tie.Need-returns-2
-unfolding digit
-returns-2 c = (sym (ap (λ b. digit (not b)) (ne-eqb _ _ (c .if1 .left))), omega arith)
+unfolding oneIf
+returns-2 c = (sym (ap (λ b. oneIf (not b)) (ne-eqb _ _ (c .if1 .left))), omega arith)
 
 pub present-spec : {M : Type 1} → statement M
 present-spec = tie.close (tie.spec returns returns-2)

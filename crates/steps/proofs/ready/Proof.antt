@@ -2,7 +2,7 @@
 use borrow.Author.Needs.{needs}
 use mathlib.Core.Path.{_∙_}
 use Rattle.steps.specs.Laws.{ready-is}
-use Rattle.model.specs.Climbing.{standing}
+use Rattle.model.specs.Climbing.{ambientsOnly}
 use Rattle.records.specs.Climbs.{view-from}
 use Rattle.steps.proofs.ready.Statement.{statement}
 use Rattle.steps.proofs.ready.Tie as tie
@@ -17,7 +17,7 @@ ambients-requires : tie.Need-ambients-requires
 ambients-requires c κs = search needs
 
 returns : tie.Need-returns
-returns c = ready-is _ _ _ _ _ (c .before .before .before .before .before .before .pre) (c .before .before .before .before .record-at .ensures) (c .ambients .ensures ∙ view-from standing _ _)
+returns c = ready-is _ _ _ _ _ (c .before .before .before .before .before .before .pre) (c .before .before .before .before .record-at .ensures) (c .ambients .ensures ∙ view-from ambientsOnly _ _)
 
 pub ready-spec : {M : Type 1} → statement M
 ready-spec = tie.close (tie.spec record-at-requires add-ambients ambients-requires returns)

@@ -10,10 +10,10 @@ use mathlib.Core.Option.{Option, none, some}
 use mathlib.Core.Path.{_∙_, _≡_, ap, refl, sym}
 use native.Mathlib.Decide.{decLe, ℕ-discrete}
 use native.Mathlib.Omega.{arith}
-use Rattle.model.specs.Finite.{digit, lowest, tally}
+use Rattle.model.specs.Finite.{oneIf, lowest, tally}
 use Rattle.model.specs.Laws.Bytes.{valid-wf}
 use Rattle.model.specs.Laws.Finite.{lowest-none, lowest-some}
-use Rattle.model.specs.Laws.Forest.{Depth, depth-unique, digit-le, mark, mark-other, root, tally-le, tally-mark, under, under-of}
+use Rattle.model.specs.Laws.Forest.{Depth, depth-unique, oneIf-le, mark, mark-other, root, tally-le, tally-mark, under, under-of}
 use Rattle.model.specs.Laws.Updates.{at-root}
 use Rattle.model.specs.Laws.WellFormed.{WellFormed, alive-in, alive-pos, parent-not-self}
 use Rattle.model.specs.Laws.Booleans.{and-left, and-right}
@@ -41,14 +41,14 @@ module _ (f : ℕ → Bool) (c : ℕ) where
 
 -- a set with as many numbers as there are has them all
 tally-full : (f : ℕ → Bool) (n : ℕ) → n ≤ tally f n → (x : ℕ) → x ≢ 0 → x ≤ n → f x ≡ true
-unfolding tally digit
+unfolding tally oneIf
 tally-full f zero h x z l = absurd (omega arith)
 tally-full f (suc n) h x z l = go (f (suc n)) refl (ℕ-discrete x (suc n)) (λ k. tally-full f n k x z)
   where
     go : (b : Bool) → f (suc n) ≡ b → Dec (x ≡ suc n) → (n ≤ tally f n → x ≤ n → f x ≡ true) → f x ≡ true
     go true e (yes q) ih = rw q e
-    go b e (no q) ih = ih (omega (arith, digit-le (f (suc n)))) (omega arith)
-    go false e (yes q) ih = let u : digit (f (suc n)) ≡ 0 = ap digit e in absurd (omega (arith, tally-le f n))
+    go b e (no q) ih = ih (omega (arith, oneIf-le (f (suc n)))) (omega arith)
+    go false e (yes q) ih = let u : oneIf (f (suc n)) ≡ 0 = ap oneIf e in absurd (omega (arith, tally-le f n))
 
 -- record j is not gone and has parent p
 record Child (its : List Rec) (p j : ℕ) : Type 0 where
@@ -98,8 +98,8 @@ On its q zero p = q ≡ p
 On its q (suc d) p = (q ≡ p) ⊎ On its q d (parentOf its p)
 
 -- f has all children of q
-abbrev Closed : List Rec → (ℕ → Bool) → ℕ → Type 0
-Closed its f q = (j : ℕ) → Child its q j → f j ≡ true
+abbrev AllChildren : List Rec → (ℕ → Bool) → ℕ → Type 0
+AllChildren its f q = (j : ℕ) → Child its q j → f j ≡ true
 
 -- f are the numbers visited before the walk goes on after those up to number after under p
 record Inv (its : List Rec) (f : ℕ → Bool) (d p after : ℕ) : Type 0 where
@@ -108,7 +108,7 @@ record Inv (its : List Rec) (f : ℕ → Bool) (d p after : ℕ) : Type 0 where
   seen : f p ≡ true
   known : (j : ℕ) → f j ≡ true → f (parentOf its j) ≡ true
   sides : Open its f d p after
-  rest : (q : ℕ) → f q ≡ true → Closed its f q ⊎ On its q d p
+  rest : (q : ℕ) → f q ≡ true → AllChildren its f q ⊎ On its q d p
 
 depth-up : {p : ℕ → ℕ} {i d : ℕ} → Depth p i (suc d) → Depth p (p i) d
 depth-up (under h r) = r
@@ -173,12 +173,12 @@ module _ (its : List Rec) (f : ℕ → Bool) (c : ℕ) where
       known-next j t (yes e) = mark-keep f c _ (ap (λ x. f (parentOf its x)) e ∙ ap f (k .parent) ∙ i .seen)
       known-next j t (no e) = mark-keep f c _ (i .known j (sym (mark-other f c j e) ∙ t))
 
-      rest-next : (q : ℕ) → mark c f q ≡ true → Dec (q ≡ c) → Closed its (mark c f) q ⊎ On its q (suc d) c
+      rest-next : (q : ℕ) → mark c f q ≡ true → Dec (q ≡ c) → AllChildren its (mark c f) q ⊎ On its q (suc d) c
       unfolding On
       rest-next q t (yes e) = inr (inl e)
       rest-next q t (no e) = go (i .rest q (sym (mark-other f c q e) ∙ t))
         where
-          go : Closed its f q ⊎ On its q d p → Closed its (mark c f) q ⊎ On its q (suc d) c
+          go : AllChildren its f q ⊎ On its q d p → AllChildren its (mark c f) q ⊎ On its q (suc d) c
           go (inl h) = inl (λ j x. mark-keep f c j (h j x))
           go (inr o) = inr (inr (rw (k .parent) o))
 
@@ -198,14 +198,14 @@ module _ (its : List Rec) (f : ℕ → Bool) (c : ℕ) where
 
 -- p has no further child
 module _ (its : List Rec) (f : ℕ → Bool) (p after : ℕ) (least : (j : ℕ) → Child its p j → j ≤ after) where
-  closed : Sides its f p after → Closed its f p
+  closed : Sides its f p after → AllChildren its f p
   closed s j k = s .done j k (least j k)
 
-  all-closed : Inv its f 0 p after → (q : ℕ) → f q ≡ true → Closed its f q
+  all-closed : Inv its f 0 p after → (q : ℕ) → f q ≡ true → AllChildren its f q
   unfolding On
   all-closed i q t = go (i .rest q t)
     where
-      go : Closed its f q ⊎ On its q 0 p → Closed its f q
+      go : AllChildren its f q ⊎ On its q 0 p → AllChildren its f q
       go (inl h) = h
       go (inr e) = rw e (closed (open-sides its f 0 p after (i .sides)))
 
@@ -220,14 +220,14 @@ module _ (its : List Rec) (f : ℕ → Bool) (p after : ℕ) (least : (j : ℕ) 
     rest = λ q t. go q (i .rest q t);
   }
     where
-      go : (q : ℕ) → Closed its f q ⊎ On its q (suc d) p → Closed its f q ⊎ On its q d (parentOf its p)
+      go : (q : ℕ) → AllChildren its f q ⊎ On its q (suc d) p → AllChildren its f q ⊎ On its q d (parentOf its p)
       go q (inl h) = inl h
       go q (inr (inl e)) = inl (rw e (closed (open-sides its f (suc d) p after (i .sides))))
       go q (inr (inr o)) = inr o
 
 -- what the next visit is, after the numbers f
 data Next (its : List Rec) (f : ℕ → Bool) (v : Visit) : Type 0 where
-  ended : v .number ≡ 0 → ((q : ℕ) → f q ≡ true → Closed its f q) → Next its f v
+  ended : v .number ≡ 0 → ((q : ℕ) → f q ≡ true → AllChildren its f q) → Next its f v
   goes : v .number ≢ 0 → f (v .number) ≡ false → v .number ≤ length its → Inv its (mark (v .number) f) (suc (v .depth)) (v .number) 0 → Next its f v
 
 next : (its : List Rec) → WellFormed its → (f : ℕ → Bool) (d p after : ℕ) → Inv its f d p after → Next its f (nextFrom its d p after)
@@ -246,7 +246,7 @@ next its wf f (suc d) p after i = go (childAfter its p after) (next-child its p 
     go (suc c) (found k l m h) ih = goes (omega arith) (new its f (suc c) p after k l h wf (suc d) i) m (inv-next its f (suc c) p after k l h wf (suc d) i)
 
 -- where every number of f is closed, f has every record
-all-seen : (its : List Rec) → WellFormed its → (f : ℕ → Bool) → f 0 ≡ true → ((q : ℕ) → f q ≡ true → Closed its f q) → {j d : ℕ} → Depth (parentOf its) j d → at its j .kind ≢ 0 → f j ≡ true
+all-seen : (its : List Rec) → WellFormed its → (f : ℕ → Bool) → f 0 ≡ true → ((q : ℕ) → f q ≡ true → AllChildren its f q) → {j d : ℕ} → Depth (parentOf its) j d → at its j .kind ≢ 0 → f j ≡ true
 all-seen its wf f z h root a = z
 all-seen its wf f z h (under {i = j} n r) a = h (parentOf its j) (go (ℕ-discrete (parentOf its j) 0) (all-seen its wf f z h r)) j (record { alive = a; parent = refl })
   where
@@ -257,7 +257,7 @@ all-seen its wf f z h (under {i = j} n r) a = h (parentOf its j) (go (ℕ-discre
 -- how often record j is visited
 unfoldable pub times : ℕ → List Visit → ℕ
 times j [] = 0
-times j (v ∷ vs) = digit (eqb (v .number) j) + times j vs
+times j (v ∷ vs) = oneIf (eqb (v .number) j) + times j vs
 
 walk-step : (its : List Rec) (n p d : ℕ) (v : Visit) → nextFrom its d p 0 ≡ v → v .number ≢ 0 → walkFrom its (suc n) p d ≡ v ∷ walkFrom its n (v .number) (suc (v .depth))
 walk-step its n p d v e z =
@@ -266,22 +266,22 @@ walk-step its n p d v e z =
     walk-next its n p d (v .number - 1) (v .depth) q ∙ rw (← m)
 
 -- a visit of a new number
-times-new : (f : ℕ → Bool) (c j n : ℕ) → f c ≡ false → n ≡ digit (not (mark c f j)) → digit (eqb c j) + n ≡ digit (not (f j))
-unfolding digit
+times-new : (f : ℕ → Bool) (c j n : ℕ) → f c ≡ false → n ≡ oneIf (not (mark c f j)) → oneIf (eqb c j) + n ≡ oneIf (not (f j))
+unfolding oneIf
 times-new f c j n e h = go (ℕ-discrete j c)
   where
-    go : Dec (j ≡ c) → digit (eqb c j) + n ≡ digit (not (f j))
-    go (yes q) = let u : n ≡ 0 = h ∙ ap (λ b. digit (not b)) (ap (mark c f) q ∙ mark-self f c) in rw (eq-eqb c j (sym q), u, q, e)
-    go (no q) = let u : n ≡ digit (not (f j)) = h ∙ ap (λ b. digit (not b)) (mark-other f c j q) in rw (ne-eqb c j (λ x. q (sym x)), u) (omega arith)
+    go : Dec (j ≡ c) → oneIf (eqb c j) + n ≡ oneIf (not (f j))
+    go (yes q) = let u : n ≡ 0 = h ∙ ap (λ b. oneIf (not b)) (ap (mark c f) q ∙ mark-self f c) in rw (eq-eqb c j (sym q), u, q, e)
+    go (no q) = let u : n ≡ oneIf (not (f j)) = h ∙ ap (λ b. oneIf (not b)) (mark-other f c j q) in rw (ne-eqb c j (λ x. q (sym x)), u) (omega arith)
 
-walk-times : (its : List Rec) → WellFormed its → (n : ℕ) (f : ℕ → Bool) (p d : ℕ) → Inv its f d p 0 → tally f (length its) + n ≡ length its → (j : ℕ) → at its j .kind ≢ 0 → times j (walkFrom its n p d) ≡ digit (not (f j))
-unfolding walkFrom times digit
+walk-times : (its : List Rec) → WellFormed its → (n : ℕ) (f : ℕ → Bool) (p d : ℕ) → Inv its f d p 0 → tally f (length its) + n ≡ length its → (j : ℕ) → at its j .kind ≢ 0 → times j (walkFrom its n p d) ≡ oneIf (not (f j))
+unfolding walkFrom times oneIf
 walk-times its wf zero f p d i t j a = rw (tally-full f (length its) (omega arith) j (alive-pos its j a) (alive-in its j a))
 walk-times its wf (suc n) f p d i t j a = go (nextFrom its d p 0) refl (next its wf f d p 0 i) (walk-times its wf n)
   where
     go : (v : Visit) → nextFrom its d p 0 ≡ v → Next its f v →
-        ((f : ℕ → Bool) (p d : ℕ) → Inv its f d p 0 → tally f (length its) + n ≡ length its → (j : ℕ) → at its j .kind ≢ 0 → times j (walkFrom its n p d) ≡ digit (not (f j))) →
-        times j (walkFrom its (suc n) p d) ≡ digit (not (f j))
+        ((f : ℕ → Bool) (p d : ℕ) → Inv its f d p 0 → tally f (length its) + n ≡ length its → (j : ℕ) → at its j .kind ≢ 0 → times j (walkFrom its n p d) ≡ oneIf (not (f j))) →
+        times j (walkFrom its (suc n) p d) ≡ oneIf (not (f j))
     go v e (ended z h) ih =
         let u : walkFrom its (suc n) p d ≡ [] = walk-end its n p d (ap (λ x. x .number) e ∙ z) in
         rw (u, all-seen its wf f (i .env) h (wf .reach j .1) a)
@@ -294,7 +294,7 @@ unfoldable start : ℕ → Bool
 start x = eqb x 0
 
 start-tally : (n : ℕ) → tally start n ≡ 0
-unfolding tally start digit
+unfolding tally start oneIf
 start-tally zero = refl
 start-tally (suc n) = rw (ne-eqb (suc n) 0 (omega arith), start-tally n)
 
@@ -319,12 +319,12 @@ start-inv its = record {
 
 -- each record that is not gone is visited once
 pub walk-once : (its : List Rec) → WellFormed its → (j : ℕ) → at its j .kind ≢ 0 → times j (walk its) ≡ 1
-unfolding walk start digit
+unfolding walk start oneIf
 walk-once its wf j a = walk-times its wf (length its) start 0 0 (start-inv its) (omega (arith, start-tally (length its))) j a ∙ rw (ne-eqb j 0 (alive-pos its j a))
 
 -- a record that is gone is not visited
 walk-gone : (its : List Rec) (j : ℕ) → at its j .kind ≡ 0 → (n p d : ℕ) → times j (walkFrom its n p d) ≡ 0
-unfolding walkFrom times digit
+unfolding walkFrom times oneIf
 walk-gone its j a zero p d = refl
 walk-gone its j a (suc n) p d = go (ℕ-discrete (nextFrom its d p 0 .number) 0) (walk-gone its j a n)
   where
@@ -344,7 +344,7 @@ pub data Visits (j : ℕ) : List Visit → Type 0 where
   later : {v : Visit} {vs : List Visit} → Visits j vs → Visits j (v ∷ vs)
 
 times-visits : (j : ℕ) (vs : List Visit) → 1 ≤ times j vs → Visits j vs
-unfolding times digit
+unfolding times oneIf
 times-visits j [] h = absurd (omega arith)
 times-visits j (v ∷ vs) h = go (ℕ-discrete (v .number) j) (times-visits j vs)
   where
