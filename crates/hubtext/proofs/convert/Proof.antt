@@ -45,8 +45,9 @@ same-length-2 c = search needs
 returns-2 : tie.Need-returns-2
 returns-2 c =
     let start = c .before .before .before .before .before .before .before .before .before .before in
+    let if1 = c .before .before .before .before .before .before .before .if1 in
     let read-text = c .before .before .before .before .before .read-text in
-    convert-read (start .args .readable) (start .args .text .now) (start .args .it .now) (start .pre) _ (same-length-2 c) _ (not-false _ (c .before .before .before .before .before .before .before .if1 .left)) (sym (c .before .k .given .1) ∙ read-text .ensures .0) (read-text .ensures .1)
+    convert-read (start .args .readable) (start .args .text .now) (start .args .it .now) (start .pre) _ (same-length-2 c) _ (not-false _ (if1 .left)) (sym (c .before .k .given .1) ∙ read-text .ensures .0) (read-text .ensures .1)
 
 same-length-3 : tie.Need-same-length-3
 same-length-3 c = search needs
