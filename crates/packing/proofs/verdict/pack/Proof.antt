@@ -5,27 +5,6 @@ use Rattle.packing.specs.Packing.{verdictResult}
 use Rattle.packing.proofs.verdict.pack.Statement.{statement}
 use Rattle.packing.proofs.verdict.pack.Tie as tie
 
-enum-known-v : tie.Need-enum-known-v
-enum-known-v c = search needs
-
-code-requires : tie.Need-code-requires
-code-requires c κs = search needs
-
-label-requires : tie.Need-label-requires
-label-requires c κs = search needs
-
-cast-t7 : tie.Need-cast-t7
-cast-t7 c = search needs
-
-enum-known-v-2 : tie.Need-enum-known-v-2
-enum-known-v-2 c = search needs
-
-cast-t8 : tie.Need-cast-t8
-cast-t8 c = search needs
-
-cast-t9 : tie.Need-cast-t9
-cast-t9 c = search needs
-
 returns : tie.Need-returns
 unfolding verdictResult judgedAs
 returns c = rw (c .before .before .before .v .given .1, c .before .code .ensures, c .label .ensures)
@@ -35,15 +14,4 @@ unfolding verdictResult judgedAs refusal
 returns-2 c = rw (c .before .before .before .v2 .given .1)
 
 pub pack-spec : {M : Type 1} → statement M
-pack-spec =
-    tie.close
-    (tie.spec
-    enum-known-v
-    code-requires
-    label-requires
-    cast-t7
-    enum-known-v-2
-    cast-t8
-    cast-t9
-    returns
-    returns-2)
+pack-spec = tie.close (tie.spec (λ c. search needs) (λ c κs. search needs) (λ c κs. search needs) (λ c. search needs) (λ c. search needs) (λ c. search needs) (λ c. search needs) returns returns-2)
