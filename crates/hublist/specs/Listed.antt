@@ -1,7 +1,7 @@
 -- What hublist writes: the listing by the table that it makes, and nothing where the maker or the listing refuses.
 use Prim.Native.Nat.{_≤_, ℕ}
 use lib.ListN.{length}
-use mathlib.Core.List.{List}
+use mathlib.Core.List.{List, []}
 use mathlib.Core.Path.{_∙_, _≡_, ap, refl, sym}
 use native.Mathlib.Omega.{arith}
 use Rattle.model.specs.Calls.{makeAfter, makeAnswer, making}
@@ -21,7 +21,7 @@ use Rattle.text_form.specs.Writing.{listOf, listable, textOr}
 unfoldable pub listed : List ℕ → List ℕ → List ℕ → List ℕ
 listed s policy table =
     let after = makeAfter s policy table in
-    textOr (andThen (making s policy table) (listable s after)) (listOf (records s) (suspects after))
+    textOr [] (andThen (making s policy table) (listable s after)) (listOf (records s) (suspects after))
 
 -- a listing by any table has room
 pub room-for : (s table : List ℕ) → listable s table ≡ pass → length (listOf (records s) (suspects table)) ≤ 1075200
@@ -34,7 +34,7 @@ module _ (s policy table : List ℕ) where
   listed-fits e =
       let after = makeAfter s policy table in
       let c = andThen (making s policy table) (listable s after) in
-      omega (arith, or-short c (listOf (records s) (suspects after)) 1075200 (λ h. room-for s after (then-pass _ _ h .1)))
+      omega (arith, or-short [] c (listOf (records s) (suspects after)) 1075200 (omega arith) (λ h. room-for s after (then-pass _ _ h .1)))
 
   module _ (r : Made) (e : madeAs r ≡ makeAnswer s policy table) where
     pub made-refused : (x : Refusal) → r ≡ made.Refused x → {n : ℕ} → n ≡ 0 → (t : List ℕ) → (n ≡ length (listed s policy table)) × (t ≡ over (listed s policy table) t)
@@ -44,7 +44,7 @@ module _ (s policy table : List ℕ) where
         rw (c, andThen) (z, refl)
 
     pub made-done : (k : ℕ) → r ≡ made.Done k → (table′ t : List ℕ) {t′ : List ℕ} {n : ℕ} → table′ ≡ makeAfter s policy table →
-        (n ≡ length (textOr (listable s table′) (listOf (records s) (suspects table′)))) × (t′ ≡ over (textOr (listable s table′) (listOf (records s) (suspects table′))) t) →
+        (n ≡ length (textOr [] (listable s table′) (listOf (records s) (suspects table′)))) × (t′ ≡ over (textOr [] (listable s table′) (listOf (records s) (suspects table′))) t) →
         (n ≡ length (listed s policy table)) × (t′ ≡ over (listed s policy table) t)
     unfolding listed madeAs makeAnswer andThen
     made-done k d table′ t f y =

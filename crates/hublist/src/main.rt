@@ -3,6 +3,7 @@
 use model::Made;
 use model::Refusal;
 use text_form::TextWritten;
+ghost use mathlib.Core.List.{[]};
 ghost use mathlib.Core.Path.{_≡_};
 ghost use Prim.Native.Nat.{_≤_};
 ghost use lib.ListN.{length};
@@ -30,8 +31,8 @@ fn tell(r: Refusal) -> usize
 // hold of the arm without room only because it never comes to it.
 fn list(it: &[u8], table: &[u8], text: &mut [u8]) -> usize
     requires { ⌜ 1075200 ≤ length (now text) ⌝ }
-    ensures { λ r. ⌜ (r ≡ length (textOr (listable (now (it .entry)) (now (table .entry))) (listOf (records (now (it .entry))) (suspects (now (table .entry))))))
-        × (now (text .exit) ≡ over (textOr (listable (now (it .entry)) (now (table .entry))) (listOf (records (now (it .entry))) (suspects (now (table .entry))))) (now (text .entry))) ⌝ }
+    ensures { λ r. ⌜ (r ≡ length (textOr [] (listable (now (it .entry)) (now (table .entry))) (listOf (records (now (it .entry))) (suspects (now (table .entry))))))
+        × (now (text .exit) ≡ over (textOr [] (listable (now (it .entry)) (now (table .entry))) (listOf (records (now (it .entry))) (suspects (now (table .entry))))) (now (text .entry))) ⌝ }
 {
     match text_write::list_text(it, table, text) {
         TextWritten::Refused(r) => tell(r),

@@ -120,7 +120,11 @@ listAnswer s table text = told (listable s table) (listOf (records s) (suspects 
 unfoldable pub listAfter : List ℕ → List ℕ → List ℕ → List ℕ
 listAfter s table text = toldAfter (listable s table) (listOf (records s) (suspects table)) text
 
--- what hubshow and hublist write: the text, and nothing where they are refused
-unfoldable pub textOr : Check → List ℕ → List ℕ
-textOr pass w = w
-textOr (refuse n r) w = []
+-- what hubshow and hublist write: the text, and other bytes where they are refused
+unfoldable pub textOr : List ℕ → Check → List ℕ → List ℕ
+textOr other pass w = w
+textOr other (refuse n r) w = other
+
+-- hubshow's bytes where there is no text: a question mark, which no line begins with, so that it is not read as an itinerary
+unfoldable pub noText : List ℕ
+noText = 63 ∷ []

@@ -1,9 +1,11 @@
 -- `hublist::list` meets its contract: a valid itinerary has a listing with room, so that there is never too little.
 use borrow.Author.Needs.{needs}
-use mathlib.Core.Path.{_∙_}
+use mathlib.Core.List.{[]}
+use mathlib.Core.Path.{refl}
 use native.Mathlib.Omega.{arith}
 use Rattle.hublist.specs.Listed.{room-for}
 use Rattle.text_form.specs.Laws.Room.{never, refused, wrote}
+use Rattle.text_put.specs.Puts.{over}
 use Rattle.text_form.specs.Writing.{listAfter, listAnswer}
 use Rattle.hublist.proofs.list.Statement.{statement}
 use Rattle.hublist.proofs.list.Tie as tie
@@ -27,12 +29,12 @@ same-length : tie.Need-same-length
 same-length c = search needs
 
 returns : tie.Need-returns
-unfolding listAnswer listAfter
+unfolding listAnswer listAfter over
 returns c =
     let pre = c .before .before .before .before .before .before .before .before .before .before .before .pre in
     let list-text = c .before .before .before .before .before .before .list-text in
-    let t = refused _ _ _ _ (list-text .result) (list-text .ensures .0) (list-text .ensures .1) (λ p. omega (arith, room-for _ _ p, pre)) _ (c .before .before .r .given .1) in
-    (c .tell .ensures ∙ t .0, t .1)
+    let t = refused _ _ _ _ (list-text .result) (list-text .ensures .0) (list-text .ensures .1) (λ p. omega (arith, room-for _ _ p, pre)) [] _ (c .before .before .r .given .1) (c .tell .ensures, refl) in
+    (t .0, t .1)
 
 same-length-2 : tie.Need-same-length-2
 same-length-2 c = search needs
@@ -42,7 +44,7 @@ unfolding listAnswer listAfter
 returns-2 c =
     let pre = c .before .before .before .before .before .before .before .before .before .before .pre in
     let list-text = c .before .before .before .before .before .list-text in
-    wrote _ _ _ _ (list-text .result) (list-text .ensures .0) (list-text .ensures .1) (λ p. omega (arith, room-for _ _ p, pre)) _ (c .before .len .given .1)
+    wrote _ _ _ _ (list-text .result) (list-text .ensures .0) (list-text .ensures .1) (λ p. omega (arith, room-for _ _ p, pre)) [] _ (c .before .len .given .1)
 
 same-length-3 : tie.Need-same-length-3
 same-length-3 c = search needs

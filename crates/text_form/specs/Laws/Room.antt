@@ -8,7 +8,7 @@ use lib.ListN.{length, length-append, length-map}
 use mathlib.Core.Bool.{Bool, _&&_, false, true}
 use mathlib.Core.List.{List, [], _∷_, map}
 use mathlib.Core.Option.{Option, none, some}
-use mathlib.Core.Path.{_∙_, _≡_, refl, sym}
+use mathlib.Core.Path.{_∙_, _≡_, ap, refl, sym}
 use native.Mathlib.Omega.{arith}
 use Rattle.model.specs.Climbing.{hidden}
 use Rattle.model.specs.Laws.Booleans.{and-right}
@@ -28,7 +28,7 @@ use Rattle.text_form.specs.Laws.Putting.{entry-length, fields-length}
 use Rattle.text_form.specs.Laws.Walking.{mark-short}
 use Rattle.text_form.specs.Lines.{ambientWord, entry, inWord, kindWord, lineBytes, openWord, outWord, render}
 use Rattle.text_form.specs.Reading.{lengthTold, linesAnswer, longest, readAnswer, readBy, roomIn, scan, scanAnswer, scanFrom}
-use Rattle.text_form.specs.Writing.{fits, lineAt, linesOf, listLine, listOf, mark, overIf, textOf, textOr, told, toldAfter, walk}
+use Rattle.text_form.specs.Writing.{fits, lineAt, linesOf, listLine, listOf, mark, noText, overIf, textOf, textOr, told, toldAfter, walk}
 use Rattle.text_form.specs.declared.Line.{Line}
 use Rattle.text_form.specs.declared.TextRead.{TextRead}
 use Rattle.text_form.specs.declared.TextRead.the-variants.{Fault, Records}
@@ -112,21 +112,23 @@ module _ (c : Check) (w t t₁ : List ℕ) (r : TextWritten) (e : r ≡ told c w
   unfolding told toldAfter content
   without n i q = (e ∙ rw q, f ∙ rw q)
 
-  pub wrote : (n : ℕ) → r ≡ Length n → (n ≡ length (textOr c w)) × (t₁ ≡ over (textOr c w) t)
+  pub wrote : (other : List ℕ) (n : ℕ) → r ≡ Length n → (n ≡ length (textOr other c w)) × (t₁ ≡ over (textOr other c w) t)
   unfolding textOr
-  wrote n q = go c refl
+  wrote other n q = go c refl
     where
-      go : (d : Check) → c ≡ d → (n ≡ length (textOr d w)) × (t₁ ≡ over (textOr d w) t)
+      go : (d : Check) → c ≡ d → (n ≡ length (textOr other d w)) × (t₁ ≡ over (textOr other d w) t)
       go pass p = let o = with-room p in let l : Length n ≡ Length (length w) = sym q ∙ o .0 in (cc, o .1)
       go (refuse m i) p = let o = without m i p in let u : _≡_ {A = ℕ} 0 1 = cc in absurd (omega arith)
 
-  pub refused : (x : Refusal) → r ≡ Refused x → (0 ≡ length (textOr c w)) × (t₁ ≡ over (textOr c w) t)
-  unfolding textOr over
-  refused x q = go c refl
+  -- where it is refused, the text is as it was, for the other bytes to be put there
+  pub refused : (other : List ℕ) (x : Refusal) → r ≡ Refused x → {n : ℕ} {t₂ : List ℕ} → (n ≡ length other) × (t₂ ≡ over other t₁) →
+      (n ≡ length (textOr other c w)) × (t₂ ≡ over (textOr other c w) t)
+  unfolding textOr
+  refused other x q {n} {t₂} y = go c refl
     where
-      go : (d : Check) → c ≡ d → (0 ≡ length (textOr d w)) × (t₁ ≡ over (textOr d w) t)
+      go : (d : Check) → c ≡ d → (n ≡ length (textOr other d w)) × (t₂ ≡ over (textOr other d w) t)
       go pass p = let o = with-room p in let u : _≡_ {A = ℕ} 0 1 = cc in absurd (omega arith)
-      go (refuse m i) p = let o = without m i p in (refl, o .1)
+      go (refuse m i) p = let o = without m i p in (y .0, y .1 ∙ ap (over other) (o .1))
 
   pub never : (n : ℕ) → r ≡ NoRoom n → ⊥
   never n q = go c refl
@@ -135,14 +137,15 @@ module _ (c : Check) (w t t₁ : List ℕ) (r : TextWritten) (e : r ≡ told c w
       go pass p = let o = with-room p in let u : _≡_ {A = ℕ} 0 1 = cc in omega arith
       go (refuse m i) p = let o = without m i p in let u : _≡_ {A = ℕ} 0 1 = cc in omega arith
 
--- the text or nothing has room where the text has
-pub or-short : (c : Check) (w : List ℕ) (n : ℕ) → (c ≡ pass → length w ≤ n) → length (textOr c w) ≤ n
+-- the text or the other bytes have room where both have
+pub or-short : (other : List ℕ) (c : Check) (w : List ℕ) (n : ℕ) → length other ≤ n → (c ≡ pass → length w ≤ n) → length (textOr other c w) ≤ n
 unfolding textOr
-or-short pass w n f = f refl
-or-short (refuse m i) w n f = omega arith
+or-short other pass w n l f = f refl
+or-short other (refuse m i) w n l f = l
 
-pub text-fits : (s : List ℕ) {n : ℕ} → n ≡ length (textOr (validity s) (textOf (records s))) → n ≤ 1061888
-text-fits s e = omega (arith, or-short (validity s) (textOf (records s)) 1061888 (text-short s))
+pub text-fits : (s : List ℕ) {n : ℕ} → n ≡ length (textOr noText (validity s) (textOf (records s))) → n ≤ 1061888
+unfolding noText
+text-fits s e = omega (arith, or-short noText (validity s) (textOf (records s)) 1061888 (omega arith) (text-short s))
 
 -- a length that is told changes no count
 length-told : (k : ℕ) (b : Bool) (r : TextRead) → Records k ≡ lengthTold b r → Records k ≡ r
