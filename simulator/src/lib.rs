@@ -1,7 +1,7 @@
 //! An independent simulator of the bench hub's ambient screen, written from the
 //! scope document alone, for comparison by running.
 //!
-//! The ten functions below are the oracle: lent bytes in, an `Answer` out, and
+//! The functions below are the oracle: lent bytes in, an `Answer` out, and
 //! the lent buffers left as the document says.
 
 pub mod answer;

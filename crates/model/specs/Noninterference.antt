@@ -21,7 +21,8 @@ use Rattle.model.specs.Scripts.{Step, stepsIn, scriptRight}
 use Rattle.model.specs.Tables.{isBoundary, isHigh, suspects}
 use Rattle.model.specs.declared.Verdict.the-variants.{Sealed}
 
--- "singly or in scripts": a single step, or a script run with its script and the length of its answers
+-- "refused steps included, singly or in scripts": a single step by any numbers, or a run of any script, with the length of its
+-- answers
 pub data Event : Type 0 where
   single : (actor partner : ℕ) → Event
   script : (bytes : List ℕ) (room : ℕ) → Event
@@ -31,7 +32,8 @@ unfoldable pub afterEvent : List ℕ → Event → List ℕ
 afterEvent s (single actor partner) = stepAfter s actor partner
 afterEvent s (script z room) = runAfter s z (replicate room 0)
 
--- "Each step gets the itinerary that the step before it left": the itinerary after a list of events
+-- "Each step gets the itinerary that the step before it left, and nobody else writes it meanwhile.": the itinerary after a list
+-- of events
 unfoldable pub after : List ℕ → List Event → List ℕ
 after s [] = s
 after s (e ∷ es) = after (afterEvent s e) es
@@ -74,11 +76,11 @@ stepAt es n = getD (allSteps es) n (record { actor = 0; partner = 0 })
 unfoldable pub before : List ℕ → List Event → ℕ → List ℕ
 before s es n = afterSteps s (take n (allSteps es))
 
--- record j of an itinerary is a boundary ambient
+-- record j of an itinerary is "a boundary ambient"
 abbrev pub BoundaryAt : List ℕ → List ℕ → ℕ → Type 0
 BoundaryAt policy s j = (isAmbient (at (records s) j) ≡ true) × (isBoundary policy (at (records s) j .label) ≡ true)
 
--- a boundary ambient stands above record i
+-- record i "has a boundary ambient above it"
 abbrev pub UnderBoundary : List ℕ → List ℕ → ℕ → Type 0
 UnderBoundary policy s i = (k : ℕ) × BoundaryAt policy s (climb (parentOf (records s)) (suc k) i)
 
@@ -91,7 +93,7 @@ SuspectsGuarded policy table s =
 abbrev pub HighGuarded : List ℕ → List ℕ → Type 0
 HighGuarded policy s = (i : ℕ) → isAmbient (at (records s) i) ≡ true → isHigh policy (at (records s) i .label) ≡ true → UnderBoundary policy s i
 
--- record i stands on the sheet: it is "neither hidden nor gone"
+-- record i "stood on the sheet": 01's "neither hidden nor gone"
 abbrev pub OnSheet : List ℕ → List ℕ → ℕ → Type 0
 OnSheet table s i = at (records (sheetOf s table)) i .kind ≢ 0
 
@@ -112,7 +114,7 @@ pub record Noninterference (policy table x y : List ℕ) (es : List Event) : Typ
 -- the whole of demand 3
 abbrev pub Demand3 : Type 0
 Demand3 = (policy table x y : List ℕ) →
-    -- "two itineraries have equally many records"
+    -- "Suppose two itineraries have equally many records" (what is accepted has whole records, so equally many bytes says it)
     length x ≡ length y →
     -- "one table is accepted for both under one policy"
     checkAnswer x policy table ≡ done tt → checkAnswer y policy table ≡ done tt →
