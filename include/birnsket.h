@@ -2,9 +2,9 @@
  * birnsket.h: the bench hub's ambient screen, for callers in C.
  *
  * Link with libbirnsket.a, which `rt staticlib birnsket` writes and ./install
- * puts beside this header. It is for x86-64 with the System V calling
- * convention only, and needs memcpy and memset of whatever it is linked with,
- * nothing else. This header compiles as C99 and as C++11. The formats, the
+ * puts into lib/, with this header in include/. It is for x86-64 with the
+ * System V calling convention only, and needs memcpy and memset of whatever it
+ * is linked with, nothing else. This header compiles as C99 and as C++11. The formats, the
  * words and the rules that the calls use are explained first; each call's
  * contract stands with it.
  *
@@ -25,8 +25,14 @@
  *  - During the call nobody else (thread, interrupt, device) writes a buffer
  *    of the call, and nobody else reads one passed without `const`.
  *  - The stack has room: allow 128 KiB (HUB_STACK) below the caller. The depth
- *    is measured, not proved: docs/BENCHMARKS.md has the deepest found of each
- *    call, the most about 81 KiB, over chains and rings of 1,024 records.
+ *    is measured, not proved: the deepest found of any call is about 81 KiB,
+ *    over chains and rings of 1,024 records.
+ *  - Nothing else uses the 128 bytes below the stack pointer (the convention's
+ *    red zone): an interrupt handler that runs on this stack skips them. SSE
+ *    registers are used as the convention has it: they are enabled, and saved
+ *    by whoever interrupts.
+ *  - A number is of its parameter's type: C cuts a wider one without a word, so
+ *    that record 65,537 would be taken for record 1, and label 256 for 0.
  *
  * Apart from that any bytes of any length are fine: what is not as it should
  * be is refused.
@@ -153,11 +159,12 @@
  *
  * HUB_VERSION is major * 65536 + minor * 256 + patch. A change raises
  *
- *  major  where an entry's arguments or a struct's fields change, a format
- *         changes, or an input gets another answer;
+ *  major  where an entry goes, its arguments or a struct's fields change, a
+ *         format changes, an input gets another answer, or a caller owes more
+ *         (HUB_STACK grows);
  *  minor  where an entry, a macro or a helper is new;
- *  patch  where nothing changes that a caller can see but speed, stack or
- *         words.
+ *  patch  where nothing changes that a caller can see but speed, words, or
+ *         less stack.
  *
  * A part that is raised sets those after it to 0. hub_version() is the version
  * of the archive that is linked; a program that was compiled with this header
@@ -174,7 +181,7 @@ extern "C" {
 #endif
 
 /* The version of this header; see VERSION above. */
-#define HUB_VERSION 0x010000u
+#define HUB_VERSION 0x010100u
 
 /* Lengths in bytes, and how many records and steps there can be. */
 #define HUB_RECORD_LENGTH 8
@@ -267,6 +274,12 @@ typedef struct HubVerdictResult {
     uint32_t label;
 } HubVerdictResult;
 
+typedef struct HubExposedResult {
+    uint32_t number;
+    uint32_t record;
+    uint32_t exposed;
+} HubExposedResult;
+
 typedef struct HubRowResult {
     uint32_t number;
     uint32_t record;
@@ -299,7 +312,8 @@ HubValidateResult hub_validate(const uint8_t *itinerary,
 
 /*
  * The container of record `number`.
- * Done: `label` is its label; 0 if no ambient is above it, and for number 0,
+ * Done: `label` is the container's, that of the nearest ambient above the
+ * record; 0 if no ambient is above it, and for number 0,
  * a number over the count or a gone record.
  * Refuses with 1 to 6.
  */
@@ -318,7 +332,8 @@ HubSheetResult hub_sheet(const uint8_t *itinerary, size_t itinerary_length,
                          uint8_t *sheet, size_t sheet_length);
 
 /*
- * Does one step in the itinerary. Actor and partner are any numbers.
+ * Does one step in the itinerary. Actor and partner are any numbers from 0 to
+ * 65,535.
  * Done: the itinerary is that after the step.
  * Refuses with 1 to 6, 10, 11, 12.
  */
@@ -363,6 +378,20 @@ HubMakeResult hub_make(const uint8_t *itinerary, size_t itinerary_length,
  * Refuses with 1 to 6, 7, 8, 9.
  */
 HubVerdictResult hub_verdict(const uint8_t *itinerary, size_t itinerary_length,
+                             const uint8_t *policy, size_t policy_length,
+                             const uint8_t *table, size_t table_length);
+
+/*
+ * Whether the verdict on an itinerary, a policy and a table is exposed, after
+ * the check, for a caller that needs no label and no hint.
+ * Done: `exposed` is 1 if a high label is in R, which is where hub_verdict
+ * gives HUB_EXPOSED; else 0, be the verdict hinted or sealed.
+ * Refuses with 1 to 6, 7, 8, 9, as hub_verdict does; `exposed` is then 0 too,
+ * so look at `number` first: a device that shows no exposure for a refused
+ * table would mislead. (It looks no further than the row of the table in which
+ * the first high label is reached: seen in the source, and measured.)
+ */
+HubExposedResult hub_exposed(const uint8_t *itinerary, size_t itinerary_length,
                              const uint8_t *policy, size_t policy_length,
                              const uint8_t *table, size_t table_length);
 
@@ -430,6 +459,7 @@ static inline void hub_write_record(uint8_t *bytes, uint8_t kind, uint8_t label,
     bytes[7] = 0;
 }
 
+/* Reads the 8 bytes of a record. */
 static inline HubRecord hub_read_record(const uint8_t *bytes)
 {
     HubRecord record;
@@ -450,6 +480,7 @@ static inline void hub_write_step(uint8_t *bytes, uint16_t actor,
     bytes[3] = (uint8_t)(partner >> 8);
 }
 
+/* Reads the 4 bytes of a step. */
 static inline HubStep hub_read_step(const uint8_t *bytes)
 {
     HubStep step;

@@ -24,10 +24,14 @@ pub struct Lent {
 impl Lent {
     /// The itinerary with the usual policy and its least table.
     fn of(itinerary: &Itinerary) -> Lent {
-        let (itinerary, policy) = (itinerary.bytes(), policies::usual().to_vec());
+        Lent::under(&itinerary.bytes(), &policies::usual())
+    }
+
+    /// The itinerary with that policy and its least table.
+    pub fn under(itinerary: &[u8], policy: &[u8]) -> Lent {
         let mut table = vec![0; TABLE_LENGTH];
-        birnsket::make(&itinerary, &policy, &mut table).expect("a good itinerary");
-        Lent::bare(&itinerary, &policy, table)
+        birnsket::make(itinerary, policy, &mut table).expect("a good itinerary");
+        Lent::bare(itinerary, policy, table)
     }
 
     /// No script, and no record named.

@@ -1,9 +1,11 @@
 //! Times the library beside the same algorithms in plain Rust, measures its stack,
-//! and compares its least tables with clingo's.
+//! counts instructions of verdict and exposed, and compares its least tables with
+//! clingo's.
 
 mod clock;
 mod figures;
 mod inputs;
+mod instructions;
 mod oracle;
 mod plain;
 mod rows;
@@ -23,16 +25,21 @@ fn main() -> ExitCode {
     match words[..] {
         ["time"] => rows::print(),
         ["stack"] => kept = stack::print(),
+        ["instructions"] => kept = instructions::print(),
+        // What valgrind runs.
+        ["call", input, call] => kept = instructions::call(input, call),
         ["clingo"] => oracle::print(SEED, COUNT),
         [] => {
             rows::print();
             println!();
             kept = stack::print();
             println!();
+            kept &= instructions::print();
+            println!();
             oracle::print(SEED, COUNT);
         }
         _ => {
-            eprintln!("usage: bench [time|stack|clingo]");
+            eprintln!("usage: bench [time|stack|instructions|clingo]");
             return ExitCode::from(2);
         }
     }

@@ -73,6 +73,15 @@ fn verdict(name: &'static str, lent: &[Lent]) -> Row {
     )
 }
 
+fn exposed(name: &'static str, lent: &[Lent]) -> Row {
+    row(
+        name,
+        lent,
+        |l| birnsket::exposed(&l.itinerary, &l.policy, &l.table),
+        |l| plain::exposed(&l.itinerary, &l.policy, &l.table),
+    )
+}
+
 fn itinerary_rows() -> Vec<Row> {
     let (in_order, reversed) = ([inputs::in_order()], [inputs::reversed()]);
     let random = inputs::random();
@@ -109,6 +118,9 @@ fn table_rows() -> Vec<Row> {
         verdict("verdict, random", &random),
         verdict("verdict, dense", &dense),
         verdict("verdict, relay", &relay),
+        exposed("exposed, random", &random),
+        exposed("exposed, dense", &dense),
+        exposed("exposed, relay", &relay),
     ]
 }
 

@@ -45,7 +45,7 @@ fn depth(lent: &Lent, call: fn(&mut Lent) -> bool) -> usize {
 
 type Measured = (&'static str, fn(&mut Lent) -> bool);
 
-const CALLS: [Measured; 10] = [
+const CALLS: [Measured; 11] = [
     ("validate", |l| birnsket::validate(&l.itinerary).is_ok()),
     ("container", |l| birnsket::container(&l.itinerary, l.number).is_ok()),
     ("sheet", |l| birnsket::sheet(&l.itinerary, &l.table, &mut l.sheet).is_ok()),
@@ -54,6 +54,7 @@ const CALLS: [Measured; 10] = [
     ("check", |l| birnsket::check(&l.itinerary, &l.policy, &l.table).is_ok()),
     ("make", |l| birnsket::make(&l.itinerary, &l.policy, &mut l.table).is_ok()),
     ("verdict", |l| birnsket::verdict(&l.itinerary, &l.policy, &l.table).is_ok()),
+    ("exposed", |l| birnsket::exposed(&l.itinerary, &l.policy, &l.table).is_ok()),
     ("row", |l| birnsket::row(&l.table, 1).is_empty()),
     ("screen", |l| birnsket::screen(&mut l.itinerary, &l.policy, &l.script, &mut l.answers).is_ok()),
 ];

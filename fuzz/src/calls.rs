@@ -15,6 +15,7 @@ pub enum Call {
     Check,
     Make,
     Verdict,
+    Exposed,
     Row(u8),
     Screen,
 }
@@ -30,6 +31,7 @@ impl Call {
             Call::Check => "check",
             Call::Make => "make",
             Call::Verdict => "verdict",
+            Call::Exposed => "exposed",
             Call::Row(_) => "row",
             Call::Screen => "screen",
         }
@@ -45,7 +47,9 @@ impl Call {
             Call::Sheet => &[(Itinerary, false), (Table, false), (Sheet, true)],
             Call::Step(..) => &[(Itinerary, true)],
             Call::Run => &[(Itinerary, true), (Script, false), (Answers, true)],
-            Call::Check | Call::Verdict => &[(Itinerary, false), (Policy, false), (Table, false)],
+            Call::Check | Call::Verdict | Call::Exposed => {
+                &[(Itinerary, false), (Policy, false), (Table, false)]
+            }
             Call::Make => &[(Itinerary, false), (Policy, false), (Table, true)],
             Call::Row(_) => &[(Table, false)],
             Call::Screen => &[(Itinerary, true), (Policy, false), (Script, false), (Answers, true)],
@@ -83,6 +87,7 @@ pub fn simulate(call: Call, lent: &mut Buffers) -> Answer {
         Call::Check => simulator::check(itinerary, policy, table),
         Call::Make => simulator::maker(itinerary, policy, table),
         Call::Verdict => simulator::verdict(itinerary, policy, table),
+        Call::Exposed => simulator::exposed(itinerary, policy, table),
         Call::Row(label) => simulator::row(table, u16::from(label)),
         Call::Screen => simulator::screen(itinerary, policy, script, answers),
     };
@@ -128,6 +133,7 @@ pub fn enter(call: Call, lent: &mut Rooms) -> Answer {
         Call::Check => enter!(hub_check(it, policy, table) ->),
         Call::Make => enter!(hub_make(it, policy, table) -> bits),
         Call::Verdict => enter!(hub_verdict(it, policy, table) -> verdict, label),
+        Call::Exposed => enter!(hub_exposed(it, policy, table) -> exposed),
         Call::Row(label) => enter!(hub_row(table; label) -> offset, length),
         Call::Screen => enter!(hub_screen(it, policy, script, answers)
             -> verdict, label, bits, ins, outs, opens, records),
@@ -156,6 +162,8 @@ pub fn enter_safely(call: Call, lent: &mut Rooms) -> Answer {
         }
         Call::Verdict => unsafe { birnsket::verdict(it.shared(), policy.shared(), table.shared()) }
             .map(|v| code(v).to_vec()),
+        Call::Exposed => unsafe { birnsket::exposed(it.shared(), policy.shared(), table.shared()) }
+            .map(|yes| vec![u32::from(yes)]),
         Call::Row(label) => Ok(part(unsafe { table.shared() }, label)),
         Call::Screen => {
             let (it, answers) = unsafe { (it.unique(), answers.unique()) };

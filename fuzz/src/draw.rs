@@ -215,7 +215,7 @@ impl Case {
     }
 
     fn any_call(&self, random: &mut Random) -> Call {
-        match random.below(100) {
+        match random.below(110) {
             0..=5 => Call::Validate,
             6..=12 => Call::Container(self.any_number(random)),
             13..=22 => Call::Sheet,
@@ -224,7 +224,8 @@ impl Case {
             57..=70 => Call::Check,
             71..=76 => Call::Make,
             77..=88 => Call::Verdict,
-            89..=93 => Call::Row(if random.chance(80) { random.below(66) as u8 } else { random.byte() }),
+            89..=98 => Call::Exposed,
+            99..=103 => Call::Row(if random.chance(80) { random.below(66) as u8 } else { random.byte() }),
             _ => Call::Screen,
         }
     }

@@ -8,7 +8,7 @@ use std::collections::BTreeMap;
 const ENOUGH: u64 = 200_000;
 
 /// The numbers that a call can answer beside 0 and, but for the row, 1 to 6.
-const OWN_NUMBERS: [(&str, &[u32]); 10] = [
+const OWN_NUMBERS: [(&str, &[u32]); 11] = [
     ("validate", &[]),
     ("container", &[]),
     ("sheet", &[8, 14]),
@@ -17,10 +17,12 @@ const OWN_NUMBERS: [(&str, &[u32]); 10] = [
     ("check", &[7, 8, 9]),
     ("make", &[7, 8]),
     ("verdict", &[7, 8, 9]),
+    ("exposed", &[7, 8, 9]),
     ("row", &[]),
     ("screen", &[7, 13]),
 ];
 const VERDICTS: [&str; 4] = ["", "exposed", "hinted", "sealed"];
+const NO_AND_YES: [&str; 2] = ["no", "yes"];
 
 /// That name, if a call has it.
 pub fn call_named(name: &str) -> Option<&'static str> {
@@ -36,6 +38,7 @@ pub struct Tally {
     numbers: BTreeMap<(&'static str, u32), u64>,
     steps: BTreeMap<u8, u64>,
     verdicts: BTreeMap<(&'static str, u32), u64>,
+    exposed: [u64; 2],
 }
 
 impl Tally {
@@ -59,6 +62,9 @@ impl Tally {
         }
         if matches!(call, Call::Verdict | Call::Screen) {
             *self.verdicts.entry((call.name(), answer[2])).or_default() += 1;
+        }
+        if call == Call::Exposed {
+            self.exposed[answer[2] as usize] += 1;
         }
         if matches!(call, Call::Run | Call::Screen) {
             for &byte in answers {
@@ -99,6 +105,8 @@ impl Tally {
             let absent = (1..4).filter(|&code| !self.verdicts.contains_key(&(call, code)));
             missing.extend(absent.map(|code| format!("{call} {}", VERDICTS[code as usize])));
         }
+        let absent = NO_AND_YES.iter().zip(self.exposed).filter(|&(_, count)| count == 0);
+        missing.extend(absent.map(|(word, _)| format!("exposed {word}")));
         let absent = [0, 10, 11, 12].into_iter().filter(|number| !self.steps.contains_key(number));
         missing.extend(absent.map(|number| format!("step {number} of a script")));
         missing
@@ -115,6 +123,9 @@ impl Tally {
         }
         for ((call, code), count) in &self.verdicts {
             println!("{call} {} {count}", VERDICTS[*code as usize]);
+        }
+        for (word, count) in NO_AND_YES.iter().zip(self.exposed) {
+            println!("exposed {word} {count}");
         }
         for (number, count) in &self.steps {
             println!("step of a script {number} {count}");
@@ -152,6 +163,7 @@ mod tests {
         assert!(
             missing.contains(&"validate 6".to_string()) && missing.contains(&"screen hinted".to_string())
         );
+        assert!(missing.contains(&"exposed 9".to_string()) && missing.contains(&"exposed yes".to_string()));
         assert!(!missing.contains(&"validate 0".to_string()));
     }
 }

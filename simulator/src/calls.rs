@@ -109,6 +109,12 @@ pub fn verdict(law: Law, itinerary: &[u8], policy: &[u8], table: &[u8]) -> Outco
     Ok(values(&[code, label]))
 }
 
+/// 1 for yes, 0 for no; refused as the verdict is.
+pub fn exposed(law: Law, itinerary: &[u8], policy: &[u8], table: &[u8]) -> Outcome {
+    let (policy, table) = accept(law, itinerary, policy, table)?;
+    Ok(values(&[u16::from(table::exposed(&policy, &table))]))
+}
+
 /// Offset and length of the row's part of the table; 0 and 0 for the empty part.
 pub fn row(table: &[u8], label: u16) -> Outcome {
     if label > 63 || table.len() != TABLE_LENGTH {

@@ -1,5 +1,5 @@
 //! An independent simulator of the bench hub's ambient screen, written from the
-//! scope document alone, for comparison by running.
+//! scope document and the change requests alone, for comparison by running.
 //!
 //! The functions below are the oracle: lent bytes in, an `Answer` out, and
 //! the lent buffers left as the document says.
@@ -57,6 +57,11 @@ pub fn maker(itinerary: &[u8], policy: &[u8], table: &mut [u8]) -> Answer {
 /// Values: 1 exposed, 2 hinted or 3 sealed, then the label (0 if sealed).
 pub fn verdict(itinerary: &[u8], policy: &[u8], table: &[u8]) -> Answer {
     calls::verdict(Law::Document, itinerary, policy, table).into()
+}
+
+/// Values: 1 if a high label is in R, 0 if none is.
+pub fn exposed(itinerary: &[u8], policy: &[u8], table: &[u8]) -> Answer {
+    calls::exposed(Law::Document, itinerary, policy, table).into()
 }
 
 /// Values: offset and length of the row's part, 0 and 0 for the empty part.

@@ -239,7 +239,7 @@ impl Verdict {
 }
 
 /// R: grows until no label can be added.
-fn reached(policy: &Policy, table: &Table) -> [bool; 64] {
+pub fn reached(policy: &Policy, table: &Table) -> [bool; 64] {
     let mut reached = [false; 64];
     reached[0] = true;
     loop {
@@ -268,6 +268,28 @@ pub fn verdict(policy: &Policy, table: &Table) -> Verdict {
         Some(label) => Verdict::Hinted(label),
         None => Verdict::Sealed,
     }
+}
+
+/// Whether a high label is in R. R grows one label at a time, and the search ends
+/// with the first high one; what R and S have in common is not asked.
+pub fn exposed(policy: &Policy, table: &Table) -> bool {
+    let mut reached = BTreeSet::from([0u8]);
+    let mut not_looked_into = vec![0u8];
+    while let Some(x) = not_looked_into.pop() {
+        if policy[x as usize] == BOUNDARY {
+            continue;
+        }
+        for k in 1..64u8 {
+            if !table.inside(x, k) || !reached.insert(k) {
+                continue;
+            }
+            if policy[k as usize] == HIGH {
+                return true;
+            }
+            not_looked_into.push(k);
+        }
+    }
+    false
 }
 
 /// Whether the record, or one above it, is a suspect ambient.

@@ -70,7 +70,9 @@ impl Verdict {
         match code {
             1 => Verdict::Exposed(label as u8),
             2 => Verdict::Hinted(label as u8),
-            _ => Verdict::Sealed,
+            3 => Verdict::Sealed,
+            // An archive of another major version: no verdict is better than a wrong one.
+            _ => panic!("birnsket: a verdict that this version doesn't have"),
         }
     }
 }

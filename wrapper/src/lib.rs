@@ -4,12 +4,17 @@
 //! leaves every slice as it was. The formats, the causes, their order, and what the
 //! slices hold afterwards are in include/birnsket.h; [`Refusal::cause`] has a
 //! number's cause in words. The functions need no allocator and no operating
-//! system.
+//! system, but the archive is for x86-64 with the System V calling convention only,
+//! and a call needs 128 KiB of stack: on a target without a guard page below its
+//! stack, see to that room yourself.
 //!
 //! Examples here use an itinerary of two ambients, label 2 in label 1, and an out
 //! capability in the inner one; label 1 is a boundary and label 2 high.
 
 #![no_std]
+
+#[cfg(not(target_arch = "x86_64"))]
+compile_error!("libbirnsket.a is for x86-64 with the System V calling convention");
 
 #[cfg(test)]
 extern crate std;
@@ -41,8 +46,8 @@ pub fn version() -> u32 {
 
 /// The number of records, gone ones counted.
 ///
-/// Refuses with 1 (length), or with the record's number 2 (form), 3 (label), 4
-/// (name), 5 (parent) or 6 (a climb that doesn't reach the environment).
+/// Refuses with 1 (length), or, with the record's number in `record`, 2 (form), 3
+/// (label), 4 (name), 5 (parent) or 6 (a climb that doesn't reach the environment).
 ///
 /// ```
 /// use birnsket::{validate, Refusal};
@@ -242,6 +247,43 @@ pub fn verdict(itinerary: &[u8], policy: &[u8], table: &[u8]) -> Result<Verdict,
     };
     done(result.number, result.record)?;
     Ok(Verdict::of(result.verdict, result.label))
+}
+
+/// Checks the table and says whether the verdict by it is exposed, looking no further
+/// than the first high label. Hinted and sealed are both no.
+///
+/// Refuses with 1 to 6, as [`validate`]; 7, 8 and 9, as [`check`].
+///
+/// ```
+/// use birnsket::{exposed, make, Refusal, POLICY_LENGTH, TABLE_LENGTH};
+///
+/// let itinerary =
+///     [1, 1, 0, 0, 0, 0, 0, 0, 1, 2, 1, 0, 1, 0, 0, 0, 3, 64, 0, 0, 2, 0, 0, 0];
+/// let (mut policy, mut table) = ([0; POLICY_LENGTH], [0; TABLE_LENGTH]);
+/// (policy[1], policy[2]) = (2, 1);
+/// make(&itinerary, &policy, &mut table)?;
+/// assert_eq!(exposed(&itinerary, &policy, &table), Ok(true));
+/// // Without the capability label 2 stays where it is.
+/// make(&itinerary[..16], &policy, &mut table)?;
+/// assert_eq!(exposed(&itinerary[..16], &policy, &table), Ok(false));
+/// // That table doesn't hold with it.
+/// let refusal = Refusal { number: 9, record: 0 };
+/// assert_eq!(exposed(&itinerary, &policy, &table), Err(refusal));
+/// # Ok::<(), birnsket::Refusal>(())
+/// ```
+pub fn exposed(itinerary: &[u8], policy: &[u8], table: &[u8]) -> Result<bool, Refusal> {
+    let result = unsafe {
+        raw::hub_exposed(
+            itinerary.as_ptr(),
+            itinerary.len(),
+            policy.as_ptr(),
+            policy.len(),
+            table.as_ptr(),
+            table.len(),
+        )
+    };
+    done(result.number, result.record)?;
+    Ok(result.exposed == 1)
 }
 
 /// The row of a label as that very part of the table; the empty part for a label

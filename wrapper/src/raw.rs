@@ -1,7 +1,7 @@
 //! The entries as the archive has them. What a caller owes is in include/birnsket.h.
 
 /// HUB_VERSION of the header that these declarations follow.
-pub const HUB_VERSION: u32 = 0x010000;
+pub const HUB_VERSION: u32 = 0x010100;
 
 /// Results: number and record 0 and the fields named where the call is done, else a refusal's number and record
 /// and zeros.
@@ -28,6 +28,7 @@ results! {
     HubCheckResult {}
     HubMakeResult { bits }
     HubVerdictResult { verdict, label }
+    HubExposedResult { exposed }
     HubRowResult { offset, length }
     HubScreenResult { verdict, label, bits, ins, outs, opens, records }
 }
@@ -82,6 +83,14 @@ extern "C" {
         table: Bytes,
         table_len: usize,
     ) -> HubVerdictResult;
+    pub fn hub_exposed(
+        it: Bytes,
+        it_len: usize,
+        policy: Bytes,
+        policy_len: usize,
+        table: Bytes,
+        table_len: usize,
+    ) -> HubExposedResult;
     pub fn hub_row(table: Bytes, table_len: usize, label: u8) -> HubRowResult;
     pub fn hub_screen(
         it: BytesMut,

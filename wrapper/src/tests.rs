@@ -31,13 +31,14 @@ fn parent(itinerary: &[u8], number: usize) -> u16 {
     u16::from_le_bytes([itinerary[8 * number - 4], itinerary[8 * number - 3]])
 }
 
-/// Makes the table, has it checked, and gives bits, suspects and verdict.
+/// Makes the table, has it checked, and gives bits, suspects and verdict; exposed and the screen agree with it.
 fn screened(records: &[Fields], policy: &[u8]) -> (u32, Vec<u8>, Verdict) {
     let itinerary = bytes(records);
     let mut table = vec![0xff; TABLE_LENGTH];
     let bits = make(&itinerary, policy, &mut table).unwrap();
     check(&itinerary, policy, &table).unwrap();
     let judged = verdict(&itinerary, policy, &table).unwrap();
+    assert_eq!(exposed(&itinerary, policy, &table), Ok(matches!(judged, Verdict::Exposed(_))));
     let suspects = (0..64u8).filter(|k| table[1536 + usize::from(k / 8)] >> (k % 8) & 1 == 1).collect();
     let shown = screen(&mut itinerary.clone(), policy, &[], &mut []).unwrap();
     assert_eq!((shown.bits, shown.verdict), (bits, judged));
@@ -130,6 +131,26 @@ fn example_b_fields() {
 }
 
 #[test]
+fn example_b_exposed() {
+    let (itinerary, mut table) = (bytes(&B), [0; TABLE_LENGTH]);
+    let enter = |policy: &[u8], table: &[u8]| unsafe {
+        raw::hub_exposed(
+            itinerary.as_ptr(),
+            itinerary.len(),
+            policy.as_ptr(),
+            policy.len(),
+            table.as_ptr(),
+            table.len(),
+        )
+    };
+    let nothing = raw::HubExposedResult { number: 9, record: 0, exposed: 0 };
+    assert_eq!(enter(&usual(), &table), nothing);
+    make(&itinerary, &usual(), &mut table).unwrap();
+    assert_eq!(enter(&usual(), &table), raw::HubExposedResult { number: 0, exposed: 1, ..nothing });
+    assert_eq!(enter(&[0; 64], &table), raw::HubExposedResult { number: 0, ..nothing });
+}
+
+#[test]
 fn example_c() {
     let records = [A[0], A[1], (4, 64, 1, 1), (1, 3, 2, 3), (3, 65, 0, 4)];
     assert_eq!(screened(&records, &usual()), (12, vec![1, 2, 3], Verdict::Hinted(1)));
@@ -188,10 +209,14 @@ fn tables_and_policies_refused() {
     let (itinerary, policy) = (bytes(&A), usual());
     let mut table = [0; TABLE_LENGTH];
     assert_eq!(check(&itinerary, &policy, &table), Err(refusal(9, 0)));
+    assert_eq!(exposed(&itinerary, &policy, &table), Err(refusal(9, 0)));
     assert_eq!(check(&itinerary, &policy[1..], &table), Err(refusal(7, 0)));
+    assert_eq!(exposed(&itinerary, &policy[1..], &table), Err(refusal(7, 0)));
     assert_eq!(make(&itinerary, &policy, &mut table[1..]), Err(refusal(8, 0)));
     table[0] = 1;
     assert_eq!(verdict(&itinerary, &policy, &table), Err(refusal(8, 0)));
+    assert_eq!(exposed(&itinerary, &policy, &table), Err(refusal(8, 0)));
+    assert_eq!(exposed(&bytes(&[(1, 1, 0, 1)]), &policy, &table), Err(refusal(6, 1)));
     assert_eq!(sheet(&itinerary, &table, &mut [0; 16]), Err(refusal(8, 0)));
 }
 
@@ -203,8 +228,8 @@ fn defined(name: &str) -> &'static str {
 
 #[test]
 fn the_header_has_the_same_numbers() {
-    assert_eq!(defined("HUB_VERSION "), "0x010000u");
-    assert_eq!((raw::HUB_VERSION, version()), (0x010000, 0x010000));
+    assert_eq!(defined("HUB_VERSION "), "0x010100u");
+    assert_eq!((raw::HUB_VERSION, version()), (0x010100, 0x010100));
     assert_eq!(defined("HUB_POLICY_LENGTH "), POLICY_LENGTH.to_string());
     assert_eq!(defined("HUB_TABLE_LENGTH "), TABLE_LENGTH.to_string());
 }

@@ -9,7 +9,7 @@ mod tables;
 pub use itinerary::{container, validate};
 pub use sheet::sheet;
 pub use steps::{run, step};
-pub use tables::{check, make, passes, verdict};
+pub use tables::{check, exposed, make, passes, verdict};
 
 use birnsket::Refusal;
 

@@ -1,4 +1,4 @@
-//! Policy and table: refusals 7 and 8, check, maker and verdict.
+//! Policy and table: refusals 7 and 8, check, maker, verdict and exposed.
 
 use super::closure::{transposed, Partners};
 use super::itinerary::{nearest_labels, records, validate, AMBIENT, IN};
@@ -158,6 +158,13 @@ pub fn passes(itinerary: &[u8], policy: &[u8]) -> usize {
     least.close(&least.partners(itinerary))
 }
 
+/// Adds the labels that may stand directly in x.
+fn with_row(table: &Table, x: usize, reached: &mut [bool; 64]) {
+    for (k, found) in reached.iter_mut().enumerate() {
+        *found |= table.ambients[x] >> k & 1 == 1;
+    }
+}
+
 /// The labels reached from the environment: each goes one step on, once.
 fn reached(table: &Table, policy: &[u8]) -> [bool; 64] {
     let mut reached = [false; 64];
@@ -166,9 +173,7 @@ fn reached(table: &Table, policy: &[u8]) -> [bool; 64] {
     while let Some(x) = (0..64).find(|&x| reached[x] && !seen[x]) {
         seen[x] = true;
         if policy[x] != BOUNDARY {
-            for (k, found) in reached.iter_mut().enumerate() {
-                *found |= table.ambients[x] >> k & 1 == 1;
-            }
+            with_row(table, x, &mut reached);
         }
     }
     reached
@@ -183,4 +188,27 @@ pub fn verdict(itinerary: &[u8], policy: &[u8], table: &[u8]) -> Result<Verdict,
     }
     let hint = (0..64u8).find(|&k| reached[usize::from(k)] && table.suspects >> k & 1 == 1);
     Ok(hint.map_or(Verdict::Sealed, Verdict::Hinted))
+}
+
+/// Whether a high label is reached; the search ends with the first.
+fn reaches_high(table: &Table, policy: &[u8]) -> bool {
+    let high: [bool; 64] = std::array::from_fn(|k| policy[k] == HIGH);
+    let mut reached = [false; 64];
+    let mut seen = [false; 64];
+    reached[0] = true;
+    while let Some(x) = (0..64).find(|&x| reached[x] && !seen[x]) {
+        seen[x] = true;
+        if policy[x] != BOUNDARY {
+            with_row(table, x, &mut reached);
+        }
+        if reached.iter().zip(&high).fold(false, |met, (&found, &high)| met | (found & high)) {
+            return true;
+        }
+    }
+    false
+}
+
+pub fn exposed(itinerary: &[u8], policy: &[u8], table: &[u8]) -> Result<bool, Refusal> {
+    let table = accept(itinerary, policy, table)?;
+    Ok(reaches_high(&table, policy))
 }

@@ -24,7 +24,7 @@ pub fn row<'a>(table: &'a [u8], label: u8) -> &'a [u8]
     ensures { λ r. ⌜ r .ptr .0 ≡ table .entry .ptr .0 ⌝ }
     ensures { λ r. ⌜ r .ptr .1 ≡ table .entry .ptr .1 + rowStart (now (table .entry)) label ⌝ }
 {
-    if table.len() != 1544 {
+    if table.len() != tables::TABLE_BYTES {
         return &table[0..0];
     }
     if 63 < label {

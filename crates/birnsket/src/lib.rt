@@ -1,6 +1,7 @@
 // The calls of the library as functions for callers in other languages. What a caller owes is in include/birnsket.h.
 use packing::check::HubCheckResult;
 use packing::container::HubContainerResult;
+use packing::exposed::HubExposedResult;
 use packing::make::HubMakeResult;
 use packing::row::HubRowResult;
 use packing::run::HubRunResult;
@@ -10,15 +11,15 @@ use packing::step::HubStepResult;
 use packing::validate::HubValidateResult;
 use packing::verdict::HubVerdictResult;
 ghost use mathlib.Core.Path.{_≡_};
-ghost use Rattle.model.specs.Calls.{checkAnswer, containerAnswer, makeAfter, makeAnswer, runAfter, runAnswer, runAnswers, screenAfter, screenAnswer, screenAnswers, sheetAfter, sheetAnswer, stepAfter, stepAnswer, validateAnswer, verdictAnswer};
-ghost use Rattle.packing.specs.Packing.{checkResult, containerResult, makeResult, rowResult, runResult, screenResult, sheetResult, stepResult, validateResult, verdictResult, version};
+ghost use Rattle.model.specs.Calls.{checkAnswer, containerAnswer, exposedAnswer, makeAfter, makeAnswer, runAfter, runAnswer, runAnswers, screenAfter, screenAnswer, screenAnswers, sheetAfter, sheetAnswer, stepAfter, stepAnswer, validateAnswer, verdictAnswer};
+ghost use Rattle.packing.specs.Packing.{checkResult, containerResult, exposedResult, makeResult, rowResult, runResult, screenResult, sheetResult, stepResult, validateResult, verdictResult, version};
 
 // The version of this interface; which change raises which part of it is in include/birnsket.h.
 #[no_mangle]
 pub extern "C" fn hub_version() -> u32
     ensures { λ r. ⌜ r ≡ version ⌝ }
 {
-    65536
+    65792
 }
 
 // Validates an itinerary: the number of records.
@@ -88,6 +89,14 @@ pub extern "C" fn hub_verdict(it: &[u8], policy: &[u8], table: &[u8]) -> HubVerd
     ensures { λ r. ⌜ r ≡ verdictResult (verdictAnswer (now (it .entry)) (now (policy .entry)) (now (table .entry))) ⌝ }
 {
     packing::verdict::pack(calls::verdict(it, policy, table))
+}
+
+// Whether the verdict is exposed: 1 for yes, 0 for no.
+#[no_mangle]
+pub extern "C" fn hub_exposed(it: &[u8], policy: &[u8], table: &[u8]) -> HubExposedResult
+    ensures { λ r. ⌜ r ≡ exposedResult (exposedAnswer (now (it .entry)) (now (policy .entry)) (now (table .entry))) ⌝ }
+{
+    packing::exposed::pack(calls::exposed(it, policy, table))
 }
 
 // The row of a label in the caller's table: its offset and its length, both 0 for the empty part. (An exported function

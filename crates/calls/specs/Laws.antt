@@ -1,10 +1,11 @@
 -- What each call returns and leaves, by what its checks found: one law for each where they refuse, and one where they pass.
 use Prim.Native.Nat.{_%_, _≤_, ℕ}
 use lib.ListN.{length}
+use mathlib.Core.Bool.{Bool}
 use mathlib.Core.List.{List}
 use mathlib.Core.Path.{_∙_, _≡_, ap, refl, sym}
 use Rattle.model.specs.Analysis.{permitAll}
-use Rattle.model.specs.Calls.{checking, containerAnswer, makeAfter, makeAnswer, making, outcomeCheck, runAfter, runAnswer, runAnswers, running, screenAfter, screenAnswer, screenAnswers, screening, sheetAfter, sheetAnswer, showing, stepAfter, stepAnswer, stepping, validateAnswer, verdictAnswer}
+use Rattle.model.specs.Calls.{checking, containerAnswer, exposedAnswer, makeAfter, makeAnswer, making, outcomeCheck, runAfter, runAnswer, runAnswers, running, screenAfter, screenAnswer, screenAnswers, screening, sheetAfter, sheetAnswer, showing, stepAfter, stepAnswer, stepping, validateAnswer, verdictAnswer}
 use Rattle.model.specs.Climbing.{container}
 use Rattle.model.specs.Laws.Bytes.{valid-few, valid-whole}
 use Rattle.model.specs.Laws.Checks.{answer-done, answer-refused, content-kept, content-new, done-answer, refuse-answer, then-next, then-refuse}
@@ -18,7 +19,7 @@ use Rattle.model.specs.Scripts.{afterList, answersOf, countsOf, notGone, outcom
 use Rattle.model.specs.Steps.{outcome, stepBytes}
 use Rattle.model.specs.Tables.{bits, parts, total}
 use Rattle.model.specs.Validity.{validity}
-use Rattle.model.specs.Verdicts.{verdictOf}
+use Rattle.model.specs.Verdicts.{exposed, verdictOf}
 use Rattle.model.specs.declared.Counts.{Counts}
 use Rattle.model.specs.declared.Outcome.{Outcome}
 use Rattle.model.specs.declared.Refusal.{Refusal}
@@ -91,6 +92,14 @@ module _ (s policy table : List ℕ) where
   pub verdict-done : (v : Verdict) → checking s policy table ≡ pass → v ≡ verdictOf (parts (bits table)) policy → done v ≡ verdictAnswer s policy table
   unfolding verdictAnswer
   verdict-done v e q = done-answer _ e q
+
+  pub exposed-refused : (r : Refusal) → checking s policy table ≡ refuse (r .number) (r .record) → refusal r ≡ exposedAnswer s policy table
+  unfolding exposedAnswer
+  exposed-refused r e = refuse-answer _ r e
+
+  pub exposed-done : (b : Bool) → checking s policy table ≡ pass → b ≡ exposed (parts (bits table)) policy → done b ≡ exposedAnswer s policy table
+  unfolding exposedAnswer
+  exposed-done b e q = done-answer _ e q
 
 module _ (s policy z a : List ℕ) where
   pub screen-refused : (r : Refusal) → screening s policy z a ≡ refuse (r .number) (r .record) →

@@ -1,7 +1,8 @@
-// Every call of the product, in the sequence of its definitions (Calls.antt of the model). A call is its sequence of checks,
-// one function of `sequences`, and then what it does where they pass; none has a precondition.
+// Every call of the product, in the sequence of its definitions (Calls.antt of the model). A call is its sequence of checks
+// (where it has more than one, a function of `sequences`) and then what it does where they pass; none has a precondition.
 use model::Checked;
 use model::Contained;
+use model::Exposure;
 use model::Judged;
 use model::Made;
 use model::Performed;
@@ -10,8 +11,8 @@ use model::Screened;
 use model::Validated;
 ghost use mathlib.Core.Path.{_≡_};
 ghost use Prim.Native.Nat.{_+_};
-ghost use Rattle.model.specs.Calls.{checkAnswer, containerAnswer, makeAfter, makeAnswer, rowOf, rowStart, runAfter, runAnswer, runAnswers, screenAfter, screenAnswer, screenAnswers, sheetAfter, sheetAnswer, stepAfter, stepAnswer, validateAnswer, verdictAnswer};
-ghost use Rattle.model.specs.Numbers.{containedAs, judgedAs, madeAs, performedAs, ranAs, screenedAs, validatedAs};
+ghost use Rattle.model.specs.Calls.{checkAnswer, containerAnswer, exposedAnswer, makeAfter, makeAnswer, rowOf, rowStart, runAfter, runAnswer, runAnswers, screenAfter, screenAnswer, screenAnswers, sheetAfter, sheetAnswer, stepAfter, stepAnswer, validateAnswer, verdictAnswer};
+ghost use Rattle.model.specs.Numbers.{containedAs, exposureAs, judgedAs, madeAs, performedAs, ranAs, screenedAs, validatedAs};
 
 // Validation: refusals 1 to 6; the number of records.
 pub fn validate(it: &[u8]) -> Validated
@@ -99,6 +100,17 @@ pub fn verdict(it: &[u8], policy: &[u8], table: &[u8]) -> Judged
         return Judged::Refused(r);
     }
     Judged::Done(verdicts::verdict_of(policy, table))
+}
+
+// Whether the verdict is exposed, after the check: it looks no further than the row in which a high label is reached.
+pub fn exposed(it: &[u8], policy: &[u8], table: &[u8]) -> Exposure
+    ensures { λ r. ⌜ exposureAs r ≡ exposedAnswer (now (it .entry)) (now (policy .entry)) (now (table .entry)) ⌝ }
+{
+    let c = sequences::checking(it, policy, table);
+    if let Checked::Refuse(r) = c {
+        return Exposure::Refused(r);
+    }
+    Exposure::Done(verdicts::exposed(policy, table))
 }
 
 // The row of a label as that very part of the lent table; the empty part for any other label or length.

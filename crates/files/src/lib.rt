@@ -59,7 +59,8 @@ pub struct FileRead {
 }
 
 // Reads as load_most does. A file that can't be opened, or be read to its end, is told on standard error in the system's
-// words. A byte after a part that doesn't fill the buffer shows that a read before it failed.
+// words. A byte after a part that doesn't fill the buffer shows that a read before it failed; the file was then cut short
+// for a moment, and what is told is that reading failed.
 pub fn read_most(path: &[u8], buffer: &mut [u8], max: usize) -> FileRead
     requires { ⌜ max < length (now buffer) ⌝ }
     ensures { λ r. ⌜ (Counts (r .len) (now (buffer .exit))) × (r .len ≤ max + 1)
@@ -94,9 +95,11 @@ pub fn read_most(path: &[u8], buffer: &mut [u8], max: usize) -> FileRead
     FileRead { good: true, len: n }
 }
 
-// Writes the first n bytes to standard output, by one call.
+// Writes the first n bytes to standard output. Where not all are taken, that is told on standard error in the system's words.
 pub fn first(bytes: &[u8], n: usize)
     requires { ⌜ n ≤ length (now bytes) ⌝ }
 {
-    io::write_all(STDOUT_FILENO, &bytes[..n]);
+    if !io::write_all(STDOUT_FILENO, &bytes[..n]) {
+        os::fail(b"standard output");
+    }
 }

@@ -9,7 +9,7 @@ ghost use lib.ListN.{length};
 ghost use Rattle.text_put.specs.Puts.{over};
 ghost use Rattle.text_form.specs.Reading.{converted, noItinerary};
 
-// How many bytes are written where there is no itinerary: every call refuses a length that is no multiple of 8.
+// How many bytes are written where there is no itinerary: every call on an itinerary refuses a length that is no multiple of 8.
 const NONE: usize = 1;
 
 // Room for the longest text of 1,024 records, and one byte more, by which the reader tells that a text is longer.

@@ -1,4 +1,4 @@
--- Document 01, "Refusal table" and "Order": for every call which refusals it has and in what order, what it returns,
+-- Document 01, "Refusal table" and "Order", and the calls that document 02 adds: for every call which refusals it has and in what order, what it returns,
 -- and what each lent buffer holds afterwards. A definition named in -ing is a call's sequence of checks.
 use Prim.Native.Nat.{_*_, ℕ}
 use lib.Dec.{eqb, leb}
@@ -15,7 +15,7 @@ use Rattle.model.specs.Scripts.{afterList, answersOf, countsOf, notGone,
 use Rattle.model.specs.Steps.{Outcome, done-by, outcome, stepBytes, refused-with}
 use Rattle.model.specs.Tables.{bits, parts, policyRight, tableRight, tableSized, total}
 use Rattle.model.specs.Validity.{validity}
-use Rattle.model.specs.Verdicts.{verdictOf}
+use Rattle.model.specs.Verdicts.{exposed, verdictOf}
 use Rattle.model.specs.declared.Counts.{Counts}
 use Rattle.model.specs.declared.Screen.{Screen}
 use Rattle.model.specs.declared.Verdict.{Verdict}
@@ -119,6 +119,10 @@ makeAfter s policy table = content (making s policy table) (leastTable permitAll
 -- verdict: "The verdict runs the check first."
 unfoldable pub verdictAnswer : List ℕ → List ℕ → List ℕ → Answer Verdict
 verdictAnswer s policy table = answer (checking s policy table) (verdictOf (parts (bits table)) policy)
+
+-- document 02, Job 1: whether it is exposed, "with the same refusals" as the verdict
+unfoldable pub exposedAnswer : List ℕ → List ℕ → List ℕ → Answer Bool
+exposedAnswer s policy table = answer (checking s policy table) (exposed (parts (bits table)) policy)
 
 -- the part, or the empty one
 unfoldable pub partIf : Bool → List ℕ → List ℕ

@@ -25,6 +25,7 @@ pub mod Lists
 pub mod Secrecy
 pub mod Conservation
 pub mod Made
+pub mod Exposure
 pub mod Readings
 pub mod Moves
 pub mod Reductions

@@ -1,5 +1,6 @@
 -- For each answer enum of the code: 01's number, record and values for each of its cases.
 use Prim.Native.Nat.{ℕ}
+use mathlib.Core.Bool.{Bool}
 use mathlib.Core.List.{List}
 use Rattle.model.specs.Refusals.{Check, pass, refuse, Answer, done, refused}
 use Rattle.model.specs.Records.{decode}
@@ -26,6 +27,8 @@ use Rattle.model.specs.declared.Made.{Made}
 use Rattle.model.specs.declared.Made.the-variants as made
 use Rattle.model.specs.declared.Judged.{Judged}
 use Rattle.model.specs.declared.Judged.the-variants as judged
+use Rattle.model.specs.declared.Exposure.{Exposure}
+use Rattle.model.specs.declared.Exposure.the-variants as exposure
 use Rattle.model.specs.declared.Ran.{Ran}
 use Rattle.model.specs.declared.Ran.the-variants as ran
 
@@ -71,6 +74,11 @@ madeAs (made.Refused r) = refusal r
 unfoldable pub judgedAs : Judged → Answer Verdict
 judgedAs (judged.Done v) = done v
 judgedAs (judged.Refused r) = refusal r
+
+-- whether the verdict is exposed
+unfoldable pub exposureAs : Exposure → Answer Bool
+exposureAs (exposure.Done b) = done b
+exposureAs (exposure.Refused r) = refusal r
 
 -- ins, outs and opens done
 unfoldable pub ranAs : Ran → Answer Counts

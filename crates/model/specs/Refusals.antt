@@ -37,6 +37,11 @@ unfoldable pub answer : {A : Type 0} → Check → A → Answer A
 answer pass x = done x
 answer (refuse n r) x = refused n r
 
+-- an answer with f read off what it returns: same refusals, same number and record
+unfoldable pub readOff : {A B : Type 0} → (A → B) → Answer A → Answer B
+readOff f (done x) = done (f x)
+readOff f (refused n r) = refused n r
+
 -- "left as it was": a buffer has the new content where the checks pass, and the old one where they refuse
 unfoldable pub content : {A : Type 0} → Check → A → A → A
 content pass new old = new

@@ -1,4 +1,4 @@
--- Document 01, "Verdict".
+-- Document 01, "Verdict"; document 02, Job 1.
 use Prim.Native.Nat.{suc, zero, ℕ}
 use lib.Dec.{eqb}
 use lib.ListN.{getD}
@@ -54,3 +54,7 @@ verdictBy none none = Sealed
 -- "If a high label is in R", "if S and R meet"
 unfoldable pub verdictOf : Table → List ℕ → Verdict
 verdictOf T policy = verdictBy (lowest (λ k. inR T policy k && isHigh policy k) 0 64) (lowest (λ k. inR T policy k && T .S k) 0 64)
+
+-- Document 02, Job 1, "whether the verdict is exposed", over R itself: some label of R is high
+unfoldable pub exposed : Table → List ℕ → Bool
+exposed T policy = someOf 64 (inR T policy) (isHigh policy)

@@ -83,13 +83,19 @@ pub enum Judged {
     Refused(Refusal),
 }
 
+// The answer to whether the verdict is exposed.
+pub enum Exposure {
+    Done(bool),
+    Refused(Refusal),
+}
+
 // The answer of a script run.
 pub enum Ran {
     Done(Counts),
     Refused(Refusal),
 }
 
-// What the program shows of an itinerary: the verdict, the table's bits set, the steps done and the records not gone.
+// What hubscreen shows of an itinerary: the verdict, the table's bits set, the steps done and the records not gone.
 pub struct Screen {
     pub verdict: Verdict,
     pub ones: u16,
@@ -97,7 +103,7 @@ pub struct Screen {
     pub records: u16,
 }
 
-// The answer of the program's one call.
+// The answer of the screen.
 pub enum Screened {
     Done(Screen),
     Refused(Refusal),

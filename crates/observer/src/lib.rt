@@ -23,7 +23,7 @@ fn suspect(table: &[u8], r: Rec) -> bool
     ensures { λ b. ⌜ b ≡ isSuspect (suspects (now (table .entry))) r ⌝ }
 {
     if r.kind == 1 {
-        return tables::bit(table, 12288 + (r.label as usize));
+        return tables::bit(table, tables::SUSPECTS + (r.label as usize));
     }
     false
 }

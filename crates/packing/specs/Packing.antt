@@ -2,9 +2,11 @@
 -- the refusal's number and record, and values 0, where it is refused.
 use Prim.Native.Nat.{ℕ}
 use lib.ListN.{length}
+use mathlib.Core.Bool.{Bool}
 use mathlib.Core.List.{List}
 use Rattle.packing.specs.declared.check.HubCheckResult.{HubCheckResult}
 use Rattle.packing.specs.declared.container.HubContainerResult.{HubContainerResult}
+use Rattle.packing.specs.declared.exposed.HubExposedResult.{HubExposedResult}
 use Rattle.packing.specs.declared.make.HubMakeResult.{HubMakeResult}
 use Rattle.packing.specs.declared.row.HubRowResult.{HubRowResult}
 use Rattle.packing.specs.declared.run.HubRunResult.{HubRunResult}
@@ -13,6 +15,7 @@ use Rattle.packing.specs.declared.sheet.HubSheetResult.{HubSheetResult}
 use Rattle.packing.specs.declared.step.HubStepResult.{HubStepResult}
 use Rattle.packing.specs.declared.validate.HubValidateResult.{HubValidateResult}
 use Rattle.packing.specs.declared.verdict.HubVerdictResult.{HubVerdictResult}
+use Rattle.model.specs.Finite.{oneIf}
 use Rattle.model.specs.Calls.{rowOf, rowStart}
 use Rattle.model.specs.Numbers.{labelOf, verdictCode}
 use Rattle.model.specs.Refusals.{Answer, done, refused}
@@ -20,9 +23,9 @@ use Rattle.model.specs.declared.Counts.{Counts}
 use Rattle.model.specs.declared.Screen.{Screen}
 use Rattle.model.specs.declared.Verdict.{Verdict}
 
--- the interface's version, major * 65,536 + minor * 256 + patch: 1.0.0
+-- the interface's version, major * 65,536 + minor * 256 + patch: 1.1.0
 unfoldable pub version : ℕ
-version = 65536
+version = 65792
 
 -- validate: the number of records
 unfoldable pub validateResult : Answer ℕ → HubValidateResult
@@ -63,6 +66,11 @@ makeResult (refused n i) = record { number = n; «record» = i; bits = 0 }
 unfoldable pub verdictResult : Answer Verdict → HubVerdictResult
 verdictResult (done v) = record { number = 0; «record» = 0; verdict = verdictCode v; label = labelOf v }
 verdictResult (refused n i) = record { number = n; «record» = i; verdict = 0; label = 0 }
+
+-- exposed: 1 for yes, 0 for no
+unfoldable pub exposedResult : Answer Bool → HubExposedResult
+exposedResult (done b) = record { number = 0; «record» = 0; exposed = oneIf b }
+exposedResult (refused n i) = record { number = n; «record» = i; exposed = 0 }
 
 -- a part of the table: its offset and its length
 unfoldable pub partResult : ℕ → ℕ → HubRowResult

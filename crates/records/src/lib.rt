@@ -7,6 +7,9 @@ ghost use Rattle.model.specs.Records.{byteOf, decode, gone, nested, word};
 ghost use Rattle.model.specs.Steps.{to};
 ghost use Rattle.records.specs.Written.{withRecord};
 
+// How many bytes the longest itinerary has: 1,024 records of 8.
+pub const LONGEST: usize = 8192;
+
 // Byte k of record i, 0 where there is none.
 pub fn byte_of(it: &[u8], i: u16, k: usize) -> u8
     requires { ⌜ k < 8 ⌝ }

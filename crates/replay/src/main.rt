@@ -30,10 +30,10 @@ fn answer(c: Case, held: &mut [u8]) -> Result {
     if c.call < 21 {
         return itinerary::answer(c, held);
     }
-    if c.call < 25 {
-        return table::answer(c, held);
+    if c.call == 25 {
+        return screen::answer(c, held);
     }
-    screen::answer(c, held)
+    table::answer(c, held)
 }
 
 // Makes the call of a case and counts it, as right where its answer and what it left are those wanted.

@@ -1,5 +1,6 @@
 // What each call answers, as stored cases have it: number and record of a refusal, or the values of a call that is done.
 use model::Contained;
+use model::Exposure;
 use model::Judged;
 use model::Made;
 use model::Performed;
@@ -57,6 +58,14 @@ pub fn of_judged(j: Judged) -> Result {
     match j {
         Judged::Done(v) => of_verdict(v),
         Judged::Refused(r) => replay_compare::refused(r.number, r.record),
+    }
+}
+
+// 1 yes, 0 no
+pub fn of_exposure(e: Exposure) -> Result {
+    match e {
+        Exposure::Done(yes) => replay_compare::done(yes as u32, 0, 0, 0),
+        Exposure::Refused(r) => replay_compare::refused(r.number, r.record),
     }
 }
 

@@ -1,4 +1,4 @@
-// The calls of stored cases on a table: check, make, verdict, row.
+// The calls of stored cases on a table: check, make, verdict, row, exposed.
 use crate::results;
 use replay_cases::Case;
 use replay_compare::Result;
@@ -15,6 +15,13 @@ fn verdict(c: Case, held: &[u8]) -> Result {
     let it = replay_buffers::lent(held, rooms[1]);
     let policy = replay_buffers::lent(held, rooms[2]);
     results::of_judged(calls::verdict(it, policy, replay_buffers::lent(held, rooms[3])))
+}
+
+fn exposed(c: Case, held: &[u8]) -> Result {
+    let rooms = c.rooms;
+    let it = replay_buffers::lent(held, rooms[1]);
+    let policy = replay_buffers::lent(held, rooms[2]);
+    results::of_exposure(calls::exposed(it, policy, replay_buffers::lent(held, rooms[3])))
 }
 
 // The table is made in a copy, since the itinerary and the policy stand in the same memory.
@@ -64,6 +71,9 @@ pub fn answer(c: Case, held: &mut [u8]) -> Result {
     }
     if c.call == 24 {
         return row(c, held);
+    }
+    if c.call == 26 {
+        return exposed(c, held);
     }
     replay_compare::refused(255, 0)
 }

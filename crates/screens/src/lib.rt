@@ -37,6 +37,6 @@ pub fn screen(it: &mut [u8], policy: &[u8], script: &[u8], answers: &mut [u8]) -
         × (now (it .exit) ≡ screenAfter (now (it .entry)) (now (policy .entry)) (now (script .entry)) (now (answers .entry)))
         × (now (answers .exit) ≡ screenAnswers (now (it .entry)) (now (policy .entry)) (now (script .entry)) (now (answers .entry))) ⌝ }
 {
-    let mut table = [0u8; 1544];
+    let mut table = [0u8; tables::TABLE_BYTES];
     screen_with(it, policy, script, answers, &mut table)
 }

@@ -23,7 +23,7 @@ fn highs_hold(policy: &[u8], table: &[u8]) -> bool
     let mut k: usize = 0;
     while k < 64 {
         if policy[k] == 1 {
-            if !tables::bit(table, 12288 + k) {
+            if !tables::bit(table, tables::SUSPECTS + k) {
                 return false;
             }
         }
@@ -46,7 +46,7 @@ fn stands(r: Rec, table: &[u8], container: u8) -> bool
     if r.kind != 1 {
         return true;
     }
-    tables::bit(table, 8192 + (64 * label + (r.name as usize)))
+    tables::bit(table, tables::NAMES + (64 * label + (r.name as usize)))
 }
 
 // Whether every ambient and capability may stand where it stands and every ambient bear its name, with the nearest labels

@@ -30,7 +30,7 @@ fn count_ones(table: &[u8]) -> u16
 {
     let mut sum: u16 = 0;
     let mut i: usize = 0;
-    while i < 1544 {
+    while i < tables::TABLE_BYTES {
         sum += u8::count_ones(table[i]) as u16;
         i += 1;
     }

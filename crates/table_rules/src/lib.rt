@@ -36,8 +36,8 @@ fn in_out_holds(w: &[u64], movers: &[u64], p: usize, b: usize) -> bool
     if !within(leaving, here) {
         return false;
     }
-    if table_words::bit_of(w[192], b) {
-        return within(entering | leaving, w[192]);
+    if table_words::bit_of(w[table_words::SUSPECTS], b) {
+        return within(entering | leaving, w[table_words::SUSPECTS]);
     }
     true
 }
@@ -56,8 +56,8 @@ fn open_holds(table: &[u8], p: usize, b: usize) -> bool
     if !tables::row_included(&table[x..x_end], &table[y..y_end]) {
         return false;
     }
-    if tables::bit(table, 12288 + b) {
-        return tables::bit(table, 12288 + p);
+    if tables::bit(table, tables::SUSPECTS + b) {
+        return tables::bit(table, tables::SUSPECTS + p);
     }
     true
 }

@@ -58,7 +58,7 @@ fn fill_high(policy: &[u8], table: &mut [u8])
     let mut k: usize = 0;
     while k < 64 {
         if policy[k] == 1 {
-            set_bit(table, 12288 + k);
+            set_bit(table, tables::SUSPECTS + k);
         }
         k += 1;
     }

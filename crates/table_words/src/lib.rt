@@ -18,6 +18,9 @@ pub const TABLE_WORDS: usize = 193;
 // Words of partners and of movers: one to each kind and label.
 pub const KIND_WORDS: usize = 192;
 
+// The word of S in a table.
+pub const SUSPECTS: usize = 192;
+
 // The eight bytes from `at` as a word.
 fn read_word(bytes: &[u8], at: usize) -> u64
     requires { ⌜ at + 8 ≤ length (now bytes) ⌝ }

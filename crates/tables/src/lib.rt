@@ -9,6 +9,15 @@ ghost use Rattle.model.specs.Numbers.{checkedAs};
 ghost use Rattle.model.specs.Refusals.{_▸_, need};
 ghost use Rattle.model.specs.Tables.{bits, policyRight, tableRight, tableSized};
 
+// How many bytes a table has.
+pub const TABLE_BYTES: usize = 1544;
+
+// The first bit of H.
+pub const NAMES: usize = 8192;
+
+// The first bit of S.
+pub const SUSPECTS: usize = 12288;
+
 // Bit j of a table.
 pub fn bit(table: &[u8], j: usize) -> bool
     requires { ⌜ j / 8 < length (now table) ⌝ }
@@ -68,13 +77,13 @@ pub fn table_right(table: &[u8]) -> bool
     ensures { λ r. ⌜ r ≡ tableRight (now (table .entry)) ⌝ }
 {
     let size = table.len();
-    if size != 1544 {
+    if size != TABLE_BYTES {
         return false;
     }
     if !clear_bits(table, 0, 128) {
         return false;
     }
-    clear_bits(table, 8192, 1)
+    clear_bits(table, NAMES, 1)
 }
 
 // Refusal 8, looked for only where the checks before it pass.
@@ -91,7 +100,7 @@ pub fn table_gate(so_far: Checked, table: &[u8]) -> Checked
 pub fn sized_gate(so_far: Checked, table: &[u8]) -> Checked
     ensures { λ r. ⌜ checkedAs r ≡ (checkedAs «so_far» ▸ need (tableSized (now (table .entry))) 8 0) ⌝ }
 {
-    gates::need(so_far, table.len() == 1544, 8)
+    gates::need(so_far, table.len() == TABLE_BYTES, 8)
 }
 
 // Whether each bit of the row x is one in the row y: the bits that x has more, gathered.

@@ -125,6 +125,12 @@ unfoldable pub textOr : List ℕ → Check → List ℕ → List ℕ
 textOr other pass w = w
 textOr other (refuse n r) w = other
 
--- hubshow's bytes where there is no text: a question mark, which no line begins with, so that it is not read as an itinerary
+-- hubshow's bytes where there is no text: a question mark, which no line begins with (`no-text-refused`)
 unfoldable pub noText : List ℕ
 noText = 63 ∷ []
+
+-- what hubshow writes, by whether its file can be read: the text, and the question mark where the bytes are refused or can't
+-- be read
+unfoldable pub shownText : Bool → List ℕ → List ℕ
+shownText true s = textOr noText (validity s) (textOf (records s))
+shownText false s = noText

@@ -7,17 +7,17 @@ fn error(bytes: &[u8]) {
     io::write_all(STDERR_FILENO, bytes);
 }
 
-// The cause of a number, in the words of document 01's refusal table. The calls of these programs have 1 to 8 only.
+// The cause of a number, in the words of the C header. The calls of these programs have 1 to 8 only.
 fn show_cause(number: u8) {
     match number {
-        1 => error(b"itinerary length no multiple of 8, or over 8192\n"),
-        2 => error(b"kind over 4, a spare byte not zero, or a gone record not all zero\n"),
+        1 => error(b"itinerary length no multiple of 8, or over 8,192\n"),
+        2 => error(b"kind over 4, a spare byte not 0, or a gone record not all 0\n"),
         3 => error(b"label wrong for its kind\n"),
         4 => error(b"name over 63\n"),
         5 => error(b"parent over the record count, or a record of kind 0\n"),
         6 => error(b"climbing doesn't reach 0\n"),
         7 => error(b"policy not 64 bytes, a byte over 2, or byte 0 not 0\n"),
-        8 => error(b"table not 1544 bytes, I bit 0 or H row 0 set\n"),
+        8 => error(b"table not 1,544 bytes, bit 0 of a row of I set, or row 0 of H not 0\n"),
         _ => error(b"a cause that this program has no words for\n"),
     }
 }

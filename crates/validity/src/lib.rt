@@ -67,7 +67,7 @@ pub fn form(it: &[u8]) -> Checked
     ensures { λ r. ⌜ checkedAs r ≡ form (now (it .entry)) ⌝ }
 {
     let len = it.len();
-    if !((len % 8 == 0) & (len <= 8192)) {
+    if !((len % 8 == 0) & (len <= records::LONGEST)) {
         return Checked::Refuse(Refusal {
             number: 1,
             record: 0,

@@ -1,6 +1,7 @@
 -- Sets as lists of truth values, and the steps to R.
 use Prim.Native.Nat.{_*_, _+_, _-_, _<_, suc, zero, ℕ}
 use borrow.Author.Tests.{eqb-false, ne-eqb, not-true}
+use lib.Dec.{eqb}
 use lib.ListN.{getD, length, length-set, replicate, set}
 use lib.Seq.{getD-set-other, getD-set-same}
 use mathlib.Core.Bool.{Bool, _&&_, _||_, false, not, true, true≢false}
@@ -9,15 +10,16 @@ use mathlib.Core.Option.{Option, none}
 use mathlib.Core.Path.{_∙_, _≡_, ap, ap₂, fun-ext, refl, subst, sym}
 use native.Mathlib.Decide.{ℕ-discrete}
 use native.Mathlib.Nat.{le-of-suc-le-suc, not-suc-le-zero}
+use native.Mathlib.Numerals.{add-one}
 use native.Mathlib.Omega.{arith}
-use Rattle.model.specs.Finite.{lowest}
+use Rattle.model.specs.Finite.{lowest, someOf}
 use Rattle.model.specs.Laws.Booleans.{and-left, and-make, and-right}
-use Rattle.model.specs.Laws.Finite.{lowest-make, lowest-none, lowest-nothing, lowest-some, replicated}
+use Rattle.model.specs.Laws.Finite.{lowest-make, lowest-none, lowest-nothing, lowest-some, replicated, someOf-make, someOf-use}
 use Rattle.model.specs.Laws.Reach.{reached-below, reached-inside, reached-next, reached-start, trues, trues-le}
-use Rattle.model.specs.Tables.{isBoundary, isHigh, parts, placeI}
-use Rattle.model.specs.Verdicts.{inR, marked, opening, reached, verdictBy, verdictOf}
+use Rattle.model.specs.Tables.{Table, isBoundary, isHigh, parts, placeI}
+use Rattle.model.specs.Verdicts.{exposed, inR, marked, opening, reached, verdictBy, verdictOf}
 use Rattle.model.specs.declared.Verdict.the-variants.{Exposed, Hinted, Sealed}
-use Rattle.verdicts.specs.Reach.{Origin, RowReached, ReachClosed, foundAs}
+use Rattle.verdicts.specs.Reach.{Highs, NoLabel, Origin, ReachClosed, RowReached, Until, foundAs}
 use Rattle.verdicts.specs.declared.Found.{Found}
 use Rattle.verdicts.specs.declared.Found.the-variants.{At, Nothing}
 use Rattle.tables.specs.Grow.{Below, Grown, Inside, Set, Smallest, any, below-step, same}
@@ -125,9 +127,9 @@ module _ (t : Set) (policy : List ℕ) where
   abbrev pub Seen : List Bool → Set → Type 0
   Seen seen r = (x : ℕ) → marked seen x ≡ true → (getD policy x 0 ≡ 2 → ⊥) → RowReached t x r
 
-  pub seen-none : (r : Set) → Seen (replicate 64 false) r
-  unfolding marked
-  seen-none r x m = absurd (true≢false (sym m ∙ replicated false 64 x))
+  pub seen-none : (seen : List Bool) (r : Set) → NoLabel (marked seen) → Seen seen r
+  unfolding NoLabel
+  seen-none seen r h x m = absurd (true≢false (sym m ∙ h x))
 
   module _ (seen : List Bool) (r : Set) (w : Seen seen r) where
     pub seen-more : (x : ℕ) {q : Set} → Inside r q → ((getD policy x 0 ≡ 2 → ⊥) → RowReached t x q) → Seen (set seen x true) q
@@ -156,9 +158,6 @@ module _ (t : Set) (policy : List ℕ) where
     done = λ b. g .done (λ j a. b j (h .keeps j a));
   }
 
-  pub sealed-off : {s r : Set} → Grown (ReachClosed t policy) any s r → ReachClosed t policy r → Smallest (ReachClosed t policy) s r
-  sealed-off g c = record { keeps = g .keeps; inside = g .inside; closed = c }
-
 -- ---- R
 
 module _ (u : Set) (policy : List ℕ) where
@@ -173,15 +172,20 @@ module _ (u : Set) (policy : List ℕ) where
   unfolding opening isBoundary placeI
   edge-use x k h = (and-left _ _ h, eqb-false (getD policy x 0) 2 (not-true _ (and-right (u (128 * x + k)) _ h)))
 
-  -- the least set around the environment that `ReachClosed` closes is R
-  pub reach-is : (s : Set) (r : List Bool) → length r ≡ 64 → Origin s → Smallest (ReachClosed u policy) s (marked r) → marked r ≡ inR (parts u) policy
+  -- what has grown from the environment by steps lies in R
+  pub reach-inside : (s : Set) (r : Set) → Origin s → Grown (ReachClosed u policy) any s r → Inside r (inR (parts u) policy)
   unfolding inR ReachClosed RowReached
-  reach-is s r e o L =
-      same
-      (L .inside (marked (reached 64 edge)) (λ j m. ap (marked (reached 64 edge)) (o .only j m) ∙ reached-start 64 edge (omega arith))
-      (λ x lx m d k lk t. reached-next 64 edge x k lx lk m (edge-make x k t d)))
-      (λ j m. reached-inside 64 edge (marked r) (L .keeps 0 (o .has))
-      (λ x k lx lk h q. let w = edge-use x k q in L .closed x lx h (w .1) k lk (w .0)) j (reached-below 64 edge j m) m)
+  reach-inside s r o g =
+      g .inside (marked (reached 64 edge)) (λ j m. ap (marked (reached 64 edge)) (o .only j m) ∙ reached-start 64 edge (omega arith))
+      (λ x lx m d k lk t. reached-next 64 edge x k lx lk m (edge-make x k t d))
+
+  -- and is R where `ReachClosed` closes it
+  pub reach-is : (s : Set) (r : Set) → Origin s → Grown (ReachClosed u policy) any s r → ReachClosed u policy r → r ≡ inR (parts u) policy
+  unfolding inR ReachClosed RowReached
+  reach-is s r o g c =
+      same (reach-inside s r o g)
+      (λ j m. reached-inside 64 edge r (g .keeps 0 (o .has))
+      (λ x k lx lk h q. let w = edge-use x k q in c x lx h (w .1) k lk (w .0)) j (reached-below 64 edge j m) m)
 
 pub origin-is : Origin (marked (true ∷ replicate 63 false))
 unfolding marked
@@ -190,6 +194,80 @@ origin-is = record { has = refl; only = λ j. only j }
     only : (j : ℕ) → marked (true ∷ replicate 63 false) j ≡ true → j ≡ 0
     only zero t = refl
     only (suc j) t = absurd (true≢false (sym t ∙ replicated false 63 j))
+
+-- ---- a search that stops
+
+pub no-label : NoLabel (marked (replicate 64 false))
+unfolding NoLabel marked
+no-label k = replicated false 64 k
+
+-- the highs below k are in q
+unfoldable pub HighsBelow : List ℕ → ℕ → List Bool → Type 0
+HighsBelow policy k q = (j : ℕ) → j < k → marked q j ≡ isHigh policy j
+
+pub highs-start : (policy : List ℕ) (q : List Bool) → HighsBelow policy 0 q
+unfolding HighsBelow
+highs-start policy q j l = absurd (omega arith)
+
+pub highs-next : (policy : List ℕ) (k : ℕ) (q : List Bool) → k < length q → HighsBelow policy k q → HighsBelow policy (k + 1) (set q k (eqb (getD policy k 0) 1))
+unfolding HighsBelow marked isHigh
+highs-next policy k q l h j m = go (ℕ-discrete j k)
+  where
+    go : Dec (j ≡ k) → getD (set q k (eqb (getD policy k 0) 1)) j false ≡ eqb (getD policy j 0) 1
+    go (yes e) = ap (λ (x : ℕ). getD (set q k (eqb (getD policy k 0) 1)) x false) e ∙ getD-set-same q k _ false l ∙ ap (λ (x : ℕ). eqb (getD policy x 0) 1) (sym e)
+    go (no d) = getD-set-other q k j _ false d ∙ h j (omega (arith, d))
+
+pub highs-end : (policy : List ℕ) (k : ℕ) (q : List Bool) → k ≡ 64 → HighsBelow policy k q → Highs policy (marked q)
+unfolding HighsBelow Highs
+highs-end policy k q e h j l = h j (omega arith)
+
+-- one number more
+pub some-next : (t f : ℕ → Bool) (k : ℕ) {m : Bool} → m ≡ someOf k t f → ((t k && f k) || m) ≡ someOf (k + 1) t f
+unfolding someOf
+some-next t f k h = ap (λ (x : Bool). (t k && f k) || x) h ∙ go (t k) (f k) refl refl ∙ ap (λ (n : ℕ). someOf n t f) (sym (add-one k))
+  where
+    go : (a b : Bool) → t k ≡ a → f k ≡ b → ((t k && f k) || someOf k t f) ≡ someOf (suc k) t f
+    go false b p q = rw (p, someOf)
+    go true false p q = rw (p, q, someOf)
+    go true true p q = rw (p, q, someOf)
+
+pub some-none : (t f : ℕ → Bool) → false ≡ someOf 0 t f
+unfolding someOf
+some-none t f = refl
+
+pub some-all : (t f : ℕ → Bool) {k : ℕ} → k ≡ 64 → someOf k t f ≡ someOf 64 t f
+some-all t f e = ap (λ (n : ℕ). someOf n t f) e
+
+-- what has a number in common with another
+pub met-until : {R stop q : Set} → Inside q R → someOf 64 q stop ≡ true → Until R stop q
+met-until i e = record { inside = i; whole = λ h. absurd (true≢false (sym e ∙ h)) }
+
+pub all-until : {R stop q : Set} → q ≡ R → Until R stop q
+all-until {q = q} e = record { inside = λ k m. ap (λ (x : Set). x k) (sym e) ∙ m; whole = λ _. e }
+
+-- where there is nothing to stop at, all is reached
+pub until-all : {R stop q : Set} → Until R stop q → NoLabel stop → q ≡ R
+unfolding NoLabel
+until-all {R} {stop} {q} w h = w .whole (go (someOf 64 q stop) refl)
+  where
+    go : (t : Bool) → someOf 64 q stop ≡ t → someOf 64 q stop ≡ false
+    go false e = e
+    go true e = let x = someOf-use q stop 64 e in absurd (true≢false (sym (x .3) ∙ h (x .0)))
+
+-- a search that stops at high labels has met one exactly where R has one
+pub until-exposed : (T : Table) (policy : List ℕ) {high q : Set} → Until (inR T policy) high q → Highs policy high → someOf 64 q high ≡ exposed T policy
+unfolding exposed Highs
+until-exposed T policy {high} {q} w h = go (someOf 64 q high) refl
+  where
+    go : (t : Bool) → someOf 64 q high ≡ t → t ≡ someOf 64 (inR T policy) (isHigh policy)
+    go true e = let x = someOf-use q high 64 e in sym (someOf-make _ _ 64 (x .0) (x .1) (w .inside (x .0) (x .2)) (sym (h (x .0) (x .1)) ∙ x .3))
+    go false e = none (someOf 64 (inR T policy) (isHigh policy)) refl
+      where
+        none : (t : Bool) → someOf 64 (inR T policy) (isHigh policy) ≡ t → false ≡ someOf 64 (inR T policy) (isHigh policy)
+        none false f = sym f
+        none true f =
+            let x = someOf-use (inR T policy) (isHigh policy) 64 f in
+            absurd (true≢false (sym (someOf-make q high 64 (x .0) (x .1) (ap (λ (y : Set). y (x .0)) (w .whole e) ∙ x .2) (h (x .0) (x .1) ∙ x .3)) ∙ e))
 
 -- ---- the verdict
 

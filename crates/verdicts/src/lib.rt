@@ -4,11 +4,11 @@ ghost use mathlib.Core.Path.{_≡_};
 ghost use mathlib.Core.Bool.{_&&_, not};
 ghost use Prim.Native.Nat.{_<_};
 ghost use lib.ListN.{length};
-ghost use Rattle.model.specs.Finite.{lowest};
+ghost use Rattle.model.specs.Finite.{lowest, someOf};
 ghost use Rattle.model.specs.Tables.{bits, isHigh, parts, suspects};
-ghost use Rattle.model.specs.Verdicts.{inR, marked, verdictOf};
+ghost use Rattle.model.specs.Verdicts.{exposed, inR, marked, verdictOf};
 ghost use Rattle.tables.specs.Grow.{Smallest};
-ghost use Rattle.verdicts.specs.Reach.{Origin, RowReached, foundAs};
+ghost use Rattle.verdicts.specs.Reach.{Highs, NoLabel, Origin, RowReached, Until, foundAs};
 
 // The lowest label that a search finds, if any.
 pub enum Found {
@@ -55,15 +55,53 @@ fn lowest_unseen(r: [bool; 64], seen: [bool; 64]) -> Found
     Found::Nothing
 }
 
-// The reached labels: each label goes one step on, once, unless it is a boundary.
-fn reach(policy: &[u8], table: &[u8]) -> [bool; 64]
+// No label.
+fn none() -> [bool; 64]
+    ensures { λ q. ⌜ NoLabel (marked q) ⌝ }
+{
+    [false; 64]
+}
+
+// The high labels of the policy.
+fn highs(policy: &[u8]) -> [bool; 64]
+    requires { ⌜ length (now policy) ≡ 64 ⌝ }
+    ensures { λ q. ⌜ Highs (now (policy .entry)) (marked q) ⌝ }
+{
+    let mut q = none();
+    let mut k: usize = 0;
+    while k < 64 {
+        q[k] = policy[k] == 1;
+        k += 1;
+    }
+    q
+}
+
+// Whether the two sets have a label in common. It goes through all of them, with no way out of the loop, for the compiler
+// to take many at a time.
+fn meets(r: [bool; 64], stop: [bool; 64]) -> bool
+    ensures { λ q. ⌜ q ≡ someOf 64 (marked r) (marked stop) ⌝ }
+{
+    let mut met = false;
+    let mut k: usize = 0;
+    while k < 64 {
+        met = (r[k] & stop[k]) | met;
+        k += 1;
+    }
+    met
+}
+
+// The reached labels, until one of them is a label to stop at: each label goes one step on, once, unless it is a boundary.
+fn reach_until(policy: &[u8], table: &[u8], stop: [bool; 64]) -> [bool; 64]
     requires { ⌜ length (now policy) ≡ 64 ⌝ }
     requires { ⌜ length (now table) ≡ 1544 ⌝ }
-    ensures { λ q. ⌜ marked q ≡ inR (parts (bits (now (table .entry)))) (now (policy .entry)) ⌝ }
+    ensures { λ q. ⌜ Until (inR (parts (bits (now (table .entry)))) (now (policy .entry))) (marked stop) (marked q) ⌝ }
 {
     let mut r = origin();
-    let mut seen = [false; 64];
+    let mut seen = none();
     loop {
+        if meets(r, stop) {
+            return r;
+        }
         let Found::At(k) = lowest_unseen(r, seen) else {
             return r;
         };
@@ -74,6 +112,26 @@ fn reach(policy: &[u8], table: &[u8]) -> [bool; 64]
             r = q;
         }
     }
+}
+
+// The reached labels.
+fn reach(policy: &[u8], table: &[u8]) -> [bool; 64]
+    requires { ⌜ length (now policy) ≡ 64 ⌝ }
+    requires { ⌜ length (now table) ≡ 1544 ⌝ }
+    ensures { λ q. ⌜ marked q ≡ inR (parts (bits (now (table .entry)))) (now (policy .entry)) ⌝ }
+{
+    reach_until(policy, table, none())
+}
+
+// Whether the verdict is exposed: the search ends with the row in which the first high label is reached.
+pub fn exposed(policy: &[u8], table: &[u8]) -> bool
+    requires { ⌜ length (now policy) ≡ 64 ⌝ }
+    requires { ⌜ length (now table) ≡ 1544 ⌝ }
+    ensures { λ q. ⌜ q ≡ exposed (parts (bits (now (table .entry)))) (now (policy .entry)) ⌝ }
+{
+    let high = highs(policy);
+    let r = reach_until(policy, table, high);
+    meets(r, high)
 }
 
 // The lowest high label of the set.
@@ -100,7 +158,7 @@ fn lowest_suspect(table: &[u8], r: [bool; 64]) -> Found
     let mut hint: u8 = 0;
     while hint < 64 {
         let at = hint as usize;
-        if r[at] & tables::bit(table, 12288 + at) {
+        if r[at] & tables::bit(table, tables::SUSPECTS + at) {
             return Found::At(hint);
         }
         hint += 1;

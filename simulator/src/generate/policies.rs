@@ -6,12 +6,17 @@ use crate::random::Random;
 use crate::record::{Itinerary, Kind};
 use crate::table::{least, verdict, Policy, BOUNDARY, HIGH, LOW, POLICY_LENGTH};
 
+/// These labels high, these boundaries, the others low.
+pub fn of(high: &[u8], boundaries: &[u8]) -> Policy {
+    let mut policy = [LOW; POLICY_LENGTH];
+    high.iter().for_each(|&label| policy[label as usize] = HIGH);
+    boundaries.iter().for_each(|&label| policy[label as usize] = BOUNDARY);
+    policy
+}
+
 /// Label 1 boundary, 2 high, others low: the examples' policy.
 pub fn usual() -> Policy {
-    let mut policy = [LOW; POLICY_LENGTH];
-    policy[1] = BOUNDARY;
-    policy[2] = HIGH;
-    policy
+    of(&[2], &[1])
 }
 
 /// The usual one, one that differs from it in a few labels, or any.

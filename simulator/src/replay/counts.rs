@@ -2,6 +2,7 @@
 
 use super::stream::{Buffer, Buffers, Call};
 use crate::answer::Answer;
+use crate::table::{reached, verdict, Policy, Table, Verdict, BOUNDARY, HIGH};
 use std::collections::BTreeMap;
 
 /// Counts by call, and by answer in words.
@@ -20,6 +21,7 @@ impl Counts {
         match call {
             Call::Verdict => self.add_verdict(call, answer.values[0], answer.values[1]),
             Call::Screen => self.add_verdict(call, answer.values[0] / 256, answer.values[0] % 256),
+            Call::Exposed => self.add_exposed(answer.values[0] == 1, after),
             Call::Row if answer.values[1] == 0 => self.add(call, " 0 empty part".to_string()),
             _ => {}
         }
@@ -42,6 +44,25 @@ impl Counts {
             _ => "sealed",
         };
         self.add(call, format!(" 0 {word}"));
+    }
+
+    /// Where the first high label can stand, or what the verdict is without one.
+    fn add_exposed(&mut self, yes: bool, after: &Buffers) {
+        let policy = Policy::try_from(&after.get(Buffer::Policy)[..]);
+        let (Ok(policy), Some(table)) = (policy, Table::read(after.get(Buffer::Table))) else { return };
+        let in_row = |x: u8| (1..64u8).any(|k| table.inside(x, k) && policy[k as usize] == HIGH);
+        let word = match verdict(&policy, &table) {
+            Verdict::Exposed(_) if in_row(0) => "by row 0",
+            Verdict::Exposed(_) => "rows away",
+            Verdict::Hinted(_) => "hinted",
+            Verdict::Sealed => "sealed",
+        };
+        self.add(Call::Exposed, format!(" 0 {} {word}", if yes { "yes," } else { "no," }));
+        let reached = reached(&policy, &table);
+        let behind = |x: u8| reached[x as usize] && policy[x as usize] == BOUNDARY && in_row(x);
+        if !yes && (1..64).any(behind) {
+            self.add(Call::Exposed, " 0 no, behind a boundary".to_string());
+        }
     }
 
     /// How many calls were made.
@@ -73,7 +94,7 @@ fn reachable(call: Call) -> Vec<String> {
         Call::Sheet => &[8, 14],
         Call::Step => &[10, 11, 12],
         Call::Run => &[13],
-        Call::Check | Call::Verdict => &[7, 8, 9],
+        Call::Check | Call::Verdict | Call::Exposed => &[7, 8, 9],
         Call::Maker => &[7, 8],
         Call::Row => return vec![" 0".to_string(), " 0 empty part".to_string()],
         Call::Screen => &[7, 13],
@@ -82,6 +103,10 @@ fn reachable(call: Call) -> Vec<String> {
         (0..=6).chain(numbers.iter().copied()).map(|number: u8| format!("{number:2}")).collect();
     if matches!(call, Call::Verdict | Call::Screen) {
         all.extend(["exposed", "hinted", "hinted 0", "sealed"].map(|word| format!(" 0 {word}")));
+    }
+    if call == Call::Exposed {
+        let words = ["yes, by row 0", "yes, rows away", "no, hinted", "no, sealed", "no, behind a boundary"];
+        all.extend(words.map(|word| format!(" 0 {word}")));
     }
     if matches!(call, Call::Run | Call::Screen) {
         all.extend([0, 10, 11, 12].map(|step| format!(" 0 with step answer {step}")));

@@ -1,6 +1,7 @@
 //! Replay files: seeded calls with the answers and buffers expected of them.
 
 pub mod counts;
+pub mod exposed_cases;
 pub mod itinerary_cases;
 pub mod player;
 pub mod screen_cases;

@@ -47,10 +47,11 @@ pub enum Call {
     Verdict,
     Row,
     Screen,
+    Exposed,
 }
 
 impl Call {
-    pub const ALL: [Call; 10] = [
+    pub const ALL: [Call; 11] = [
         Call::Validate,
         Call::Container,
         Call::Sheet,
@@ -61,6 +62,7 @@ impl Call {
         Call::Verdict,
         Call::Row,
         Call::Screen,
+        Call::Exposed,
     ];
 
     pub fn of_code(code: u8) -> Option<Call> {
@@ -98,6 +100,7 @@ pub fn perform(law: Law, call: Call, x: u16, y: u16, buffers: &mut Buffers) -> A
         Call::Verdict => calls::verdict(law, itinerary, policy, table),
         Call::Row => calls::row(table, x),
         Call::Screen => calls::screen(law, itinerary, policy, script, answers),
+        Call::Exposed => calls::exposed(law, itinerary, policy, table),
     };
     outcome.into()
 }

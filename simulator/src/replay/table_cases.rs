@@ -1,5 +1,6 @@
-//! Cases of check, maker, verdict and row.
+//! Cases of check, maker, verdict and row, and behind them those of exposed.
 
+use super::exposed_cases;
 use super::stream::{Buffer, Call};
 use super::writer::Writer;
 use super::Size;
@@ -14,7 +15,7 @@ use crate::random::Random;
 use crate::record::{Itinerary, MOST_RECORDS};
 use crate::table::{least, s_bit, Policy, Table};
 
-pub const CALLS: [Call; 4] = [Call::Check, Call::Maker, Call::Verdict, Call::Row];
+pub const CALLS: [Call; 5] = [Call::Check, Call::Maker, Call::Verdict, Call::Row, Call::Exposed];
 
 pub fn write(writer: &mut Writer, random: &mut Random, size: Size) {
     rows(writer, random);
@@ -39,6 +40,7 @@ pub fn write(writer: &mut Writer, random: &mut Random, size: Size) {
         dense_tables(writer, random);
     }
     large(writer, random, size);
+    exposed_cases::write(writer, random, size);
 }
 
 fn rows(writer: &mut Writer, random: &mut Random) {

@@ -115,6 +115,7 @@ static void example_a(void)
     HubMakeResult made;
     HubCheckResult checked;
     HubVerdictResult judged;
+    HubExposedResult asked;
     HubSheetResult shown;
     HubRowResult row;
     expect("A has two records", DONE(validated) && validated.records == 2);
@@ -126,6 +127,8 @@ static void example_a(void)
     expect("A: the made table is accepted", DONE(checked));
     judged = hub_verdict(example, two, usual, sizeof usual, table, sizeof table);
     expect("A is sealed", DONE(judged) && judged.verdict == HUB_SEALED && judged.label == 0);
+    asked = hub_exposed(example, two, usual, sizeof usual, table, sizeof table);
+    expect("A is not exposed", DONE(asked) && asked.exposed == 0);
     memset(sheet, 0xff, sizeof sheet);
     shown = hub_sheet(example, two, table, sizeof table, sheet, two);
     expect("A: the sheet shows record 1", DONE(shown) && memcmp(sheet, example, HUB_RECORD_LENGTH) == 0);
@@ -146,6 +149,7 @@ static void refusals(void)
     HubMakeResult made;
     HubCheckResult checked;
     HubVerdictResult judged;
+    HubExposedResult asked;
     HubRunResult ran;
     HubScreenResult screened;
     expect("seven bytes", REFUSED(contained, HUB_REFUSED_LENGTH, 0));
@@ -159,6 +163,10 @@ static void refusals(void)
     memset(table, 0, sizeof table);
     judged = hub_verdict(example, two, usual, sizeof usual, table, sizeof table);
     expect("a table that doesn't hold", REFUSED(judged, HUB_REFUSED_HOLDS, 0));
+    asked = hub_exposed(example, two, usual, sizeof usual, table, sizeof table);
+    expect("nor for this call", REFUSED(asked, HUB_REFUSED_HOLDS, 0));
+    asked = hub_exposed(example, two, usual, sizeof usual, table, 1543);
+    expect("a table one byte short", REFUSED(asked, HUB_REFUSED_TABLE, 0));
     memcpy(work, example, sizeof work);
     ran = hub_run(work, sizeof work, script, sizeof script, bytes, 2);
     expect("too many answers", REFUSED(ran, HUB_REFUSED_SCRIPT, 0));
@@ -174,12 +182,17 @@ static void example_b(void)
     const uint32_t screen[] = {0, 0, HUB_EXPOSED, 2, 7, 0, 1, 0, 2};
     HubStepResult stepped;
     HubRunResult ran;
+    HubMakeResult made;
+    HubExposedResult asked;
     HubScreenResult screened;
     memset(after, 0, sizeof after);
     hub_write_record(after + record_at(1), HUB_AMBIENT, 1, 0, 0);
     hub_write_record(after + record_at(2), HUB_AMBIENT, 2, 1, 0);
     hub_write_step(script, 3, 1);
     hub_write_step(script + HUB_STEP_LENGTH, 3, 1);
+    made = hub_make(example, sizeof example, usual, sizeof usual, table, sizeof table);
+    asked = hub_exposed(example, sizeof example, usual, sizeof usual, table, sizeof table);
+    expect("B is exposed", DONE(made) && DONE(asked) && asked.exposed == 1);
     memcpy(work, example, sizeof work);
     stepped = hub_step(work, sizeof work, 3, 1);
     expect("B: step (3,1)", DONE(stepped) && memcmp(work, after, sizeof work) == 0);
@@ -202,6 +215,7 @@ static void example_c(void)
 {
     uint8_t it[5 * HUB_RECORD_LENGTH];
     HubVerdictResult judged;
+    HubExposedResult asked;
     HubMakeResult made;
     memcpy(it, example, two);
     hub_write_record(it + record_at(3), HUB_OPEN, 64, 1, 1);
@@ -211,6 +225,8 @@ static void example_c(void)
     expect("C has twelve bits", DONE(made) && made.bits == 12);
     judged = hub_verdict(it, sizeof it, usual, sizeof usual, table, sizeof table);
     expect("C is hinted by 1", DONE(judged) && judged.verdict == HUB_HINTED && judged.label == 1);
+    asked = hub_exposed(it, sizeof it, usual, sizeof usual, table, sizeof table);
+    expect("C: hinted is not exposed", DONE(asked) && asked.exposed == 0);
 }
 
 static void example_e(void)

@@ -12,8 +12,19 @@ slice-aggregate-write-all c = sym (length-take-le _ _ (omega arith))
 write-all-requires : tie.Need-write-all-requires
 write-all-requires c κs = search needs
 
+slice-aggregate-fail : tie.Need-slice-aggregate-fail
+slice-aggregate-fail c = search needs
+
+fail-requires : tie.Need-fail-requires
+fail-requires c κs = search needs
+
 returns : tie.Need-returns
 returns c = search needs
 
+returns-2 : tie.Need-returns-2
+returns-2 c = search needs
+
 pub first-spec : {M : Type 1} → statement M
-first-spec = tie.close (tie.spec slice-aggregate-write-all write-all-requires returns)
+first-spec =
+    tie.close
+    (tie.spec slice-aggregate-write-all write-all-requires slice-aggregate-fail fail-requires returns returns-2)

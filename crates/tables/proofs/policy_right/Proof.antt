@@ -29,7 +29,7 @@ shared-slice-read-if3 : tie.Need-shared-slice-read-if3 Inv-loop μ-loop
 shared-slice-read-if3 c = omega arith
 
 returns-3 : tie.Need-returns-3 Inv-loop μ-loop
-returns-3 c = policy-over _ (c .before .before .before .loop .k) (omega arith) (c .if3 .taken)
+returns-3 c = policy-over _ (c .before .before .before .loop .k) (omega arith) (omega (arith, c .if3 .taken))
 
 add-k : tie.Need-add-k Inv-loop μ-loop
 add-k c = omega arith

@@ -1,18 +1,22 @@
 -- Example B of document 01 as text, read, written and listed; and a fault with its line.
-use Prim.Native.Nat.{ℕ}
+use Prim.Native.Nat.{suc, ℕ}
 use lib.Dec.{eqb}
 use lib.ListN.{replicate}
+use mathlib.Core.Bool.{true}
 use mathlib.Core.List.{List, [], _∷_}
+use mathlib.Core.Option.{some}
 use mathlib.Core.Path.{_≡_, refl}
 use Rattle.model.specs.Climbing.{hides, isSuspect, view, viewFrom}
 use Rattle.model.specs.Finite.{lowest}
 use Rattle.model.specs.Listing.{digitsIn, field}
 use Rattle.model.specs.Records.{at, encode, isAmbient}
-use Rattle.model.specs.Validity.{labelIn}
+use Rattle.model.specs.Refusals.{refuse}
+use Rattle.model.specs.Validity.{labelIn, validity}
 use Rattle.model.specs.declared.Rec.{Rec}
+use Rattle.text_form.specs.Laws.Converted.{fault-refused}
 use Rattle.text_form.specs.Lines.{ambientWord, entry, hiddenWord, inWord, indent, kindWord, lineBytes, openWord, outWord, render}
-use Rattle.text_form.specs.Reading.{before, bytesOf, carriageReturn, causeAt, demand, digit, ended, labelled, leading, lengthTold, lineRead, linesAnswer, named, noneAbove, numberCause, numeral, numeralOf, placed, placedFrom, readAnswer, readBy, recordOf, roomIn, scan, scanAnswer, scanFrom, starts, worded}
-use Rattle.text_form.specs.Writing.{childAfter, childOr, isChild, lineAt, linesOf, listLine, listOf, mark, nextFrom, orZero, textOf, walk, walkFrom}
+use Rattle.text_form.specs.Reading.{before, bytesOf, carriageReturn, causeAt, converted, demand, digit, ended, labelled, leading, lengthTold, lineRead, linesAnswer, markBytes, named, noneAbove, numberCause, numeral, numeralOf, placed, placedFrom, readAnswer, readBy, recordOf, roomIn, scan, scanAnswer, scanFrom, starts, unworded, visible, worded}
+use Rattle.text_form.specs.Writing.{childAfter, childOr, isChild, lineAt, linesOf, listLine, listOf, mark, nextFrom, noText, orZero, textOf, walk, walkFrom}
 use Rattle.text_form.specs.declared.TextRead.the-variants.{Fault}
 
 -- records (1,1,0,parent 0), (1,2,1,parent 1), (3,64,0,parent 2)
@@ -59,3 +63,11 @@ faults-return = refl
 pub lists-b : listOf exampleB (λ k. eqb k 2) ≡ listingB
 unfolding listOf exampleB listingB linesOf listLine mark hiddenWord entry indent kindWord ambientWord inWord outWord openWord field digitsIn lineAt walk walkFrom nextFrom childOr childAfter orZero isChild lowest at view viewFrom hides isSuspect isAmbient
 lists-b = refl
+
+-- what hubshow writes where it has no text is none: hubtext refuses it, and writes what every call on an itinerary refuses
+no-text-fault : (room : ℕ) → scan (suc room) noText .fault ≡ some 4
+unfolding noText scan scanFrom lineRead worded unworded visible demand starts leading causeAt markBytes ambientWord inWord outWord openWord
+no-text-fault room = refl
+
+pub no-text-refused : validity (converted true noText) ≡ refuse 1 0
+no-text-refused = fault-refused noText 4 (no-text-fault 1023)

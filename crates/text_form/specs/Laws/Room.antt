@@ -28,7 +28,7 @@ use Rattle.text_form.specs.Laws.Putting.{entry-length, fields-length}
 use Rattle.text_form.specs.Laws.Walking.{mark-short}
 use Rattle.text_form.specs.Lines.{ambientWord, entry, inWord, kindWord, lineBytes, openWord, outWord, render}
 use Rattle.text_form.specs.Reading.{lengthTold, linesAnswer, longest, readAnswer, readBy, roomIn, scan, scanAnswer, scanFrom}
-use Rattle.text_form.specs.Writing.{fits, lineAt, linesOf, listLine, listOf, mark, noText, overIf, textOf, textOr, told, toldAfter, walk}
+use Rattle.text_form.specs.Writing.{fits, lineAt, linesOf, listLine, listOf, mark, noText, overIf, shownText, textOf, textOr, told, toldAfter, walk}
 use Rattle.text_form.specs.declared.Line.{Line}
 use Rattle.text_form.specs.declared.TextRead.{TextRead}
 use Rattle.text_form.specs.declared.TextRead.the-variants.{Fault, Records}
@@ -143,9 +143,21 @@ unfolding textOr
 or-short other pass w n l f = f refl
 or-short other (refuse m i) w n l f = l
 
-pub text-fits : (s : List ℕ) {n : ℕ} → n ≡ length (textOr noText (validity s) (textOf (records s))) → n ≤ 1061888
-unfolding noText
-text-fits s e = omega (arith, or-short noText (validity s) (textOf (records s)) 1061888 (omega arith) (text-short s))
+pub text-fits : (readable : Bool) (s : List ℕ) {n : ℕ} → n ≡ length (shownText readable s) → n ≤ 1061888
+unfolding shownText noText
+text-fits true s e = omega (arith, or-short noText (validity s) (textOf (records s)) 1061888 (omega arith) (text-short s))
+text-fits false s e = omega (arith, e)
+
+-- what hubshow fills, by whether its file could be read
+module _ (readable : Bool) (s t : List ℕ) {n : ℕ} {t′ : List ℕ} where
+  pub shown-read : readable ≡ true → (n ≡ length (textOr noText (validity s) (textOf (records s)))) × (t′ ≡ over (textOr noText (validity s) (textOf (records s))) t) →
+      (n ≡ length (shownText readable s)) × (t′ ≡ over (shownText readable s) t)
+  unfolding shownText
+  shown-read b y = rw b y
+
+  pub shown-unread : readable ≡ false → (n ≡ length noText) × (t′ ≡ over noText t) → (n ≡ length (shownText readable s)) × (t′ ≡ over (shownText readable s) t)
+  unfolding shownText
+  shown-unread b y = rw b y
 
 -- a length that is told changes no count
 length-told : (k : ℕ) (b : Bool) (r : TextRead) → Records k ≡ lengthTold b r → Records k ≡ r

@@ -1,118 +1,17 @@
--- `verdicts::reach` meets its contract. The loop's invariant: what is reached lies in R, and the rows of the labels seen are
--- in it, but for boundaries. Each label is seen once: the number of labels not seen falls. When all that is reached is seen, it
--- is R.
-use Prim.Native.Nat.{_-_}
+-- `verdicts::reach` meets its contract: with no label to stop at, all is reached.
 use borrow.Author.Needs.{needs}
-use lib.ListN.{length, length-set}
-use mathlib.Core.Path.{_≡_}
-use native.Mathlib.Omega.{arith}
-use Rattle.model.specs.Laws.Reach.{trues}
-use Rattle.model.specs.Tables.{bits}
-use Rattle.model.specs.Verdicts.{marked}
-use Rattle.verdicts.specs.Laws.{Seen, Unseen, fewer-left, reach-is, sealed-off, seen-all, seen-more, seen-none, step-on, unseen-at, unseen-none}
-use Rattle.verdicts.specs.Reach.{ReachClosed}
-use Rattle.tables.specs.Grow.{Grown, any, start}
+use Rattle.verdicts.specs.Laws.{until-all}
 use Rattle.verdicts.proofs.reach.Statement.{statement}
 use Rattle.verdicts.proofs.reach.Tie as tie
 
-abbrev Inv-loop : tie.InvT-loop
-Inv-loop policy table r₀ seen₀ r seen = (length r ≡ 64) × (length seen ≡ 64) × Grown (ReachClosed (bits table) policy) any (marked r₀) (marked r) × Seen (bits table) policy seen (marked r)
+none-requires : tie.Need-none-requires
+none-requires c κs = tt
 
-abbrev μ-loop : tie.MeasureT-loop
-μ-loop policy table r₀ seen₀ r seen = 64 - trues seen
+reach-until-requires : tie.Need-reach-until-requires
+reach-until-requires c κs = search needs
 
-origin-requires : tie.Need-origin-requires Inv-loop μ-loop
-origin-requires c κs = tt
-
-loop-holds : tie.Need-loop-holds Inv-loop μ-loop
-loop-holds c = (search needs, search needs, start (marked (c .origin .result)), seen-none (bits (c .before .before .before .args .table .now)) (c .before .before .before .args .policy .now) _)
-
-lowest-unseen-requires : tie.Need-lowest-unseen-requires Inv-loop μ-loop
-lowest-unseen-requires c κs = tt
-
-enum-known-k : tie.Need-enum-known-k Inv-loop μ-loop
-enum-known-k c = search needs
-
-enum-told : tie.Need-enum-told Inv-loop μ-loop
-enum-told c = search needs
-
-returns : tie.Need-returns Inv-loop μ-loop
-returns c =
-    let l = c .before .before .before in
-    let o = l .before .origin in
-    let a = l .before .before .before .before .args in
-    reach-is (bits (a .table .now)) (a .policy .now) (marked (o .result)) (l .loop .r) (l .loop .inv .0) (o .ensures)
-    (sealed-off _ _ (l .loop .inv .2) (seen-all _ _ (l .loop .seen) _ (l .loop .inv .3) (unseen-none (l .loop .r) (l .loop .seen) _ (c .before .before .lowest-unseen .ensures) (c .enum-told .given .1))))
-
--- the label found is reached, and not yet seen
-new : (c : tie.After-known-told Inv-loop μ-loop) → Unseen (c .before .before .before .before .loop .r) (c .before .before .before .before .loop .seen) (c .before .k .given .0 .0)
-new c = unseen-at (c .before .before .before .before .loop .r) (c .before .before .before .before .loop .seen) _ (c .before .before .before .lowest-unseen .ensures) _ (c .before .k .given .1)
-
-cast-x : tie.Need-cast-x Inv-loop μ-loop
-cast-x c = omega (arith, new c .below)
-
-array-write-seen : tie.Need-array-write-seen Inv-loop μ-loop
-array-write-seen c = new c .below
-
-shared-slice-read-if1 : tie.Need-shared-slice-read-if1 Inv-loop μ-loop
-shared-slice-read-if1 c = let u = c .before in let l = u .before .before .before .before in omega (arith, new u .below, l .before .before .before .before .pre .0)
-
-with-row-requires : tie.Need-with-row-requires Inv-loop μ-loop
-with-row-requires c κs = let u = c .before .before in let l = u .before .before .before .before in (l .before .before .before .before .pre .1, new u .below)
-
-loop-less : tie.Need-loop-less Inv-loop μ-loop
-loop-less c =
-    let u = c .before .before .before in
-    let l = u .before .before .before .before .loop in
-    fewer-left (l .seen) _ (l .inv .1) (new u .below) (new u .new)
-
-loop-again : tie.Need-loop-again Inv-loop μ-loop
-loop-again c =
-    let u = c .before .before .before in
-    let l = u .before .before .before .before in
-    let a = l .before .before .before .before .args in
-    let i = l .loop .inv in (
-      search needs,
-      simp length-set (i .1),
-      step-on _ _ _ (new u .below) (new u .has) (c .before .if1 .taken) (i .2) (c .with-row .ensures),
-      seen-more (bits (a .table .now)) (a .policy .now) (l .loop .seen) _ (i .3) _ (c .with-row .ensures .keeps) (λ _. c .with-row .ensures .closed),
-    )
-
-loop-less-2 : tie.Need-loop-less-2 Inv-loop μ-loop
-loop-less-2 c =
-    let u = c .before .before in
-    let l = u .before .before .before .before .loop in
-    fewer-left (l .seen) _ (l .inv .1) (new u .below) (new u .new)
-
-loop-again-2 : tie.Need-loop-again-2 Inv-loop μ-loop
-loop-again-2 c =
-    let u = c .before .before in
-    let l = u .before .before .before .before in
-    let a = l .before .before .before .before .args in
-    let i = l .loop .inv in (
-      i .0,
-      simp length-set (i .1),
-      i .2,
-      seen-more (bits (a .table .now)) (a .policy .now) (l .loop .seen) _ (i .3) _ (λ j t. t) (λ d. absurd (d (c .if1 .left))),
-    )
+returns : tie.Need-returns
+returns c = until-all (c .reach-until .ensures) (c .before .none .ensures)
 
 pub reach-spec : {M : Type 1} → statement M
-reach-spec =
-    tie.close
-    (tie.spec
-    Inv-loop
-    μ-loop
-    origin-requires
-    loop-holds
-    lowest-unseen-requires
-    enum-known-k
-    enum-told
-    returns
-    cast-x
-    array-write-seen
-    shared-slice-read-if1
-    with-row-requires
-    loop-less
-    loop-again
-    loop-less-2
-    loop-again-2)
+reach-spec = tie.close (tie.spec none-requires reach-until-requires returns)

@@ -119,9 +119,12 @@ mod tests {
     #[test]
     fn the_stored_itineraries_are_written_as_stored() {
         for case in fs::read_dir("../tests/hubshow").unwrap().flatten() {
-            let (bytes, wanted) = (content(&case.path(), "itinerary.bin"), content(&case.path(), "expected"));
-            if let Ok(itinerary) = Itinerary::read(&bytes) {
-                assert!(write(&itinerary).as_bytes() == wanted, "{case:?}");
+            let wanted = content(&case.path(), "expected");
+            let bytes = fs::read(case.path().join("itinerary.bin"));
+            // What can't be read or is refused gets a question mark.
+            match bytes.map(|bytes| Itinerary::read(&bytes)) {
+                Ok(Ok(itinerary)) => assert!(write(&itinerary).as_bytes() == wanted, "{case:?}"),
+                _ => assert!(wanted == b"?", "{case:?}"),
             }
         }
     }
