@@ -24,8 +24,8 @@
  *    call. Buffers passed with `const` may overlap each other.
  *  - During the call nobody else (thread, interrupt, device) writes a buffer
  *    of the call, and nobody else reads one passed without `const`.
- *  - The stack has room: allow 128 KiB (HUB_STACK) below the caller. The depth
- *    is measured, not proved: the deepest found of any call is about 81 KiB,
+ *  - The stack has room: allow 32 KiB (HUB_STACK) below the caller. The depth
+ *    is measured, not proved: the deepest found of any call is about 16 KiB,
  *    over chains and rings of 1,024 records.
  *  - Nothing else uses the 128 bytes below the stack pointer (the convention's
  *    red zone): an interrupt handler that runs on this stack skips them. SSE
@@ -86,6 +86,10 @@
  *  children   The records that have this one as parent: what stands directly
  *             in an ambient, in parallel, and what follows a capability.
  *  container  Of a record: the label of the nearest ambient above it, or 0.
+ *  boundary ambient
+ *             An ambient whose label is boundary in the policy. The nearest one
+ *             above a record is the first met by climbing; capabilities and
+ *             other ambients on the way are passed.
  *  active     A capability is active when all records above it are ambients.
  *  suspect    A label is suspect when it is in S; high or boundary as the
  *             policy has it. An ambient is suspect, high or boundary as its
@@ -181,7 +185,7 @@ extern "C" {
 #endif
 
 /* The version of this header; see VERSION above. */
-#define HUB_VERSION 0x010100u
+#define HUB_VERSION 0x020000u
 
 /* Lengths in bytes, and how many records and steps there can be. */
 #define HUB_RECORD_LENGTH 8
@@ -193,7 +197,7 @@ extern "C" {
 #define HUB_MOST_STEPS 1024
 
 /* Bytes of stack to allow for a call; see WHAT A CALLER OWES. */
-#define HUB_STACK 131072
+#define HUB_STACK 32768
 
 /* Byte 0 of a record. */
 enum { HUB_GONE = 0, HUB_AMBIENT = 1, HUB_IN = 2, HUB_OUT = 3, HUB_OPEN = 4 };
@@ -232,11 +236,12 @@ typedef struct HubValidateResult {
     uint32_t records;
 } HubValidateResult;
 
-typedef struct HubContainerResult {
+typedef struct HubClimbResult {
     uint32_t number;
     uint32_t record;
     uint32_t label;
-} HubContainerResult;
+    uint32_t boundary;
+} HubClimbResult;
 
 typedef struct HubSheetResult {
     uint32_t number;
@@ -311,14 +316,17 @@ HubValidateResult hub_validate(const uint8_t *itinerary,
                                size_t itinerary_length);
 
 /*
- * The container of record `number`.
- * Done: `label` is the container's, that of the nearest ambient above the
- * record; 0 if no ambient is above it, and for number 0,
- * a number over the count or a gone record.
- * Refuses with 1 to 6.
+ * What stands above record `number`: its container, and the nearest boundary
+ * ambient.
+ * Done: `label` is the container, the label of the nearest ambient above the
+ * record, 0 if no ambient is above it; `boundary` is the number of the nearest
+ * boundary ambient above it, 0 if there is none. Both are 0 for number 0, a
+ * number over the count or a gone record.
+ * Refuses with 1 to 6, 7.
  */
-HubContainerResult hub_container(const uint8_t *itinerary,
-                                 size_t itinerary_length, uint16_t number);
+HubClimbResult hub_climb(const uint8_t *itinerary, size_t itinerary_length,
+                         const uint8_t *policy, size_t policy_length,
+                         uint16_t number);
 
 /*
  * Writes the observer's sheet, by itinerary and table alone: whether the table

@@ -88,6 +88,27 @@ fn wide() -> Mix {
     }
 }
 
+/// The same tree numbered from the environment on, each record after its parent.
+fn in_file_order(itinerary: &Itinerary) -> Itinerary {
+    let mut order = Vec::new();
+    let mut open = vec![0];
+    while let Some(at) = open.pop() {
+        order.extend(Some(at).filter(|&at| at != 0));
+        let inside =
+            |&number: &u16| itinerary.get(number).is_some_and(|r| r.kind != Kind::Gone && r.parent == at);
+        open.extend(itinerary.numbers().rev().filter(inside));
+    }
+    let mut numbers = [0; MOST_RECORDS + 1];
+    for (place, &number) in order.iter().enumerate() {
+        numbers[usize::from(number)] = place as u16 + 1;
+    }
+    let moved = |&number: &u16| {
+        let record = itinerary.records[usize::from(number) - 1];
+        Record { parent: numbers[usize::from(record.parent)], ..record }
+    };
+    Itinerary { records: order.iter().map(moved).collect() }
+}
+
 /// Several of one kind, so that the processor can't learn one by heart.
 fn several(seed: u64, mix: &Mix) -> Vec<Lent> {
     let mut random = Random::new(seed);
@@ -97,6 +118,12 @@ fn several(seed: u64, mix: &Mix) -> Vec<Lent> {
 /// Every label, order and name, at random.
 pub fn random() -> Vec<Lent> {
     several(1, &wide())
+}
+
+/// The same, each numbered in file order.
+pub fn filed() -> Vec<Lent> {
+    let mut random = Random::new(1);
+    (0..TURN).map(|_| Lent::of(&in_file_order(&tree(&mut random, &wide()))).about(500, 1)).collect()
 }
 
 /// Few names, so that nearly every ambient can go nearly anywhere.

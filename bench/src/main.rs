@@ -23,7 +23,12 @@ fn main() -> ExitCode {
     let words: Vec<&str> = words.iter().map(String::as_str).collect();
     let mut kept = true;
     match words[..] {
-        ["time"] => rows::print(),
+        ["time"] => {
+            rows::print();
+            println!();
+            rows::print_file_order();
+        }
+        ["order"] => rows::print_file_order(),
         ["stack"] => kept = stack::print(),
         ["instructions"] => kept = instructions::print(),
         // What valgrind runs.
@@ -32,6 +37,8 @@ fn main() -> ExitCode {
         [] => {
             rows::print();
             println!();
+            rows::print_file_order();
+            println!();
             kept = stack::print();
             println!();
             kept &= instructions::print();
@@ -39,7 +46,7 @@ fn main() -> ExitCode {
             oracle::print(SEED, COUNT);
         }
         _ => {
-            eprintln!("usage: bench [time|stack|instructions|clingo]");
+            eprintln!("usage: bench [time|order|stack|instructions|clingo]");
             return ExitCode::from(2);
         }
     }

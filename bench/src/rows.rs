@@ -2,7 +2,7 @@
 
 use crate::figures::short;
 use crate::inputs::{self, Lent};
-use crate::plain;
+use crate::plain::{self, skipping};
 use crate::timing::{row, Row};
 use std::slice::from_ref;
 
@@ -10,12 +10,12 @@ fn validate(name: &'static str, lent: &[Lent]) -> Row {
     row(name, lent, |l| birnsket::validate(&l.itinerary), |l| plain::validate(&l.itinerary))
 }
 
-fn container(name: &'static str, lent: &[Lent]) -> Row {
+fn climb(name: &'static str, lent: &[Lent]) -> Row {
     row(
         name,
         lent,
-        |l| birnsket::container(&l.itinerary, l.number),
-        |l| plain::container(&l.itinerary, l.number),
+        |l| birnsket::climb(&l.itinerary, &l.policy, l.number),
+        |l| plain::climb(&l.itinerary, &l.policy, l.number),
     )
 }
 
@@ -90,8 +90,8 @@ fn itinerary_rows() -> Vec<Row> {
         validate("validate, chain in file order", &in_order),
         validate("validate, chain reversed", &reversed),
         validate("validate, random", &random),
-        container("container, random", &random),
-        container("container, 1,022 capabilities up", &[inputs::deep()]),
+        climb("climb, random", &random),
+        climb("climb, 1,022 capabilities up", &[inputs::deep()]),
         sheet("sheet, chain in file order", &in_order),
         sheet("sheet, chain reversed", &reversed),
         sheet("sheet, random", &random),
@@ -122,6 +122,73 @@ fn table_rows() -> Vec<Row> {
         exposed("exposed, dense", &dense),
         exposed("exposed, relay", &relay),
     ]
+}
+
+/// Beside Rust that skips climbs where every parent has a lower number.
+fn validate_skipping(name: &'static str, lent: &[Lent]) -> Row {
+    row(name, lent, |l| birnsket::validate(&l.itinerary), |l| skipping::validate(&l.itinerary))
+}
+
+fn climb_skipping(name: &'static str, lent: &[Lent]) -> Row {
+    row(
+        name,
+        lent,
+        |l| birnsket::climb(&l.itinerary, &l.policy, l.number),
+        |l| skipping::climb(&l.itinerary, &l.policy, l.number),
+    )
+}
+
+fn sheet_skipping(name: &'static str, lent: &[Lent]) -> Row {
+    row(
+        name,
+        lent,
+        |l| birnsket::sheet(&l.itinerary, &l.table, &mut l.sheet),
+        |l| skipping::sheet(&l.itinerary, &l.table, &mut l.sheet),
+    )
+}
+
+fn step_skipping(name: &'static str, lent: &[Lent]) -> Row {
+    row(
+        name,
+        lent,
+        |l| birnsket::step(&mut l.itinerary, l.number, l.partner),
+        |l| skipping::step(&mut l.itinerary, l.number, l.partner),
+    )
+}
+
+/// On inputs in file order: beside Rust as above, and beside Rust that skips climbs.
+fn file_order_rows() -> Vec<[Row; 2]> {
+    let (chain, filed) = ([inputs::in_order()], inputs::filed());
+    let (to_and_fro, opens) = (inputs::to_and_fro(), inputs::opens());
+    let mut rows = Vec::new();
+    for (lent, names) in [
+        (&filed[..], ["validate, random in file order", "sheet, random in file order"]),
+        (&chain[..], ["validate, chain in file order", "sheet, chain in file order"]),
+    ] {
+        rows.push([validate(names[0], lent), validate_skipping(names[0], lent)]);
+        rows.push([sheet(names[1], lent), sheet_skipping(names[1], lent)]);
+    }
+    let name = "climb, random in file order";
+    rows.push([climb(name, &filed), climb_skipping(name, &filed)]);
+    for (name, lent) in [("step, in", &to_and_fro), ("step, open", &opens)] {
+        rows.push([step(name, from_ref(lent)), step_skipping(name, from_ref(lent))]);
+    }
+    rows
+}
+
+/// Measures and prints the rows of inputs in file order.
+pub fn print_file_order() {
+    println!("| call and input | library | Rust | ratio | Rust that skips climbs | ratio |");
+    println!("|---|---:|---:|---:|---:|---:|");
+    for [row, skipping] in file_order_rows() {
+        let [library, plain, other] =
+            [row.library, row.plain, skipping.plain].map(|time| short(time / 1000.0));
+        let ratios = (row.ratio(), skipping.ratio());
+        println!(
+            "| {} | {library} µs | {plain} µs | {:.2} | {other} µs | {:.2} |",
+            row.name, ratios.0, ratios.1
+        );
+    }
 }
 
 /// Measures and prints all rows.

@@ -47,7 +47,7 @@ type Measured = (&'static str, fn(&mut Lent) -> bool);
 
 const CALLS: [Measured; 11] = [
     ("validate", |l| birnsket::validate(&l.itinerary).is_ok()),
-    ("container", |l| birnsket::container(&l.itinerary, l.number).is_ok()),
+    ("climb", |l| birnsket::climb(&l.itinerary, &l.policy, l.number).is_ok()),
     ("sheet", |l| birnsket::sheet(&l.itinerary, &l.table, &mut l.sheet).is_ok()),
     ("step", |l| birnsket::step(&mut l.itinerary, l.number, l.partner).is_ok()),
     ("run", |l| birnsket::run(&mut l.itinerary, &l.script, &mut l.answers).is_ok()),

@@ -8,7 +8,7 @@ use birnsket::{Refusal, Verdict};
 #[derive(Clone, Copy, Debug, PartialEq, Eq)]
 pub enum Call {
     Validate,
-    Container(u16),
+    Climb(u16),
     Sheet,
     Step(u16, u16),
     Run,
@@ -24,7 +24,7 @@ impl Call {
     pub fn name(self) -> &'static str {
         match self {
             Call::Validate => "validate",
-            Call::Container(_) => "container",
+            Call::Climb(_) => "climb",
             Call::Sheet => "sheet",
             Call::Step(..) => "step",
             Call::Run => "run",
@@ -43,7 +43,8 @@ impl Call {
     pub fn lent(self) -> &'static [(Buffer, bool)] {
         use Buffer::*;
         match self {
-            Call::Validate | Call::Container(_) => &[(Itinerary, false)],
+            Call::Validate => &[(Itinerary, false)],
+            Call::Climb(_) => &[(Itinerary, false), (Policy, false)],
             Call::Sheet => &[(Itinerary, false), (Table, false), (Sheet, true)],
             Call::Step(..) => &[(Itinerary, true)],
             Call::Run => &[(Itinerary, true), (Script, false), (Answers, true)],
@@ -80,7 +81,7 @@ pub fn simulate(call: Call, lent: &mut Buffers) -> Answer {
     let Buffers { itinerary, policy, table, script, answers, sheet } = lent;
     let result = match call {
         Call::Validate => simulator::validate(itinerary),
-        Call::Container(number) => simulator::container(itinerary, number),
+        Call::Climb(number) => simulator::climb(itinerary, policy, number),
         Call::Sheet => simulator::sheet(itinerary, table, sheet),
         Call::Step(actor, partner) => simulator::step(itinerary, actor, partner),
         Call::Run => simulator::run(itinerary, script, answers),
@@ -110,6 +111,9 @@ macro_rules! enter {
     (@ $entry:ident, [$a:expr], [$($n:expr),*]) => {
         unsafe { raw::$entry($a.start, $a.length, $($n),*) }
     };
+    (@ $entry:ident, [$a:expr, $b:expr], [$n:expr]) => {
+        unsafe { raw::$entry($a.start, $a.length, $b.start, $b.length, $n) }
+    };
     (@ $entry:ident, [$a:expr, $b:expr, $c:expr], []) => {
         unsafe { raw::$entry($a.start, $a.length, $b.start, $b.length, $c.start, $c.length) }
     };
@@ -126,7 +130,7 @@ pub fn enter(call: Call, lent: &mut Rooms) -> Answer {
     let [it, policy, table, script, answers, sheet] = Buffer::ALL.map(|buffer| lent.part(buffer));
     match call {
         Call::Validate => enter!(hub_validate(it) -> records),
-        Call::Container(number) => enter!(hub_container(it; number) -> label),
+        Call::Climb(number) => enter!(hub_climb(it, policy; number) -> label, boundary),
         Call::Sheet => enter!(hub_sheet(it, table, sheet) ->),
         Call::Step(actor, partner) => enter!(hub_step(it; actor, partner) ->),
         Call::Run => enter!(hub_run(it, script, answers) -> ins, outs, opens),
@@ -145,9 +149,8 @@ pub fn enter_safely(call: Call, lent: &mut Rooms) -> Answer {
     let [it, policy, table, script, answers, sheet] = Buffer::ALL.map(|buffer| lent.part(buffer));
     let done = match call {
         Call::Validate => birnsket::validate(unsafe { it.shared() }).map(|count| vec![count]),
-        Call::Container(number) => {
-            birnsket::container(unsafe { it.shared() }, number).map(|label| vec![u32::from(label)])
-        }
+        Call::Climb(number) => unsafe { birnsket::climb(it.shared(), policy.shared(), number) }
+            .map(|above| vec![u32::from(above.label), u32::from(above.boundary)]),
         Call::Sheet => {
             unsafe { birnsket::sheet(it.shared(), table.shared(), sheet.unique()) }.map(|()| vec![])
         }

@@ -217,7 +217,7 @@ impl Case {
     fn any_call(&self, random: &mut Random) -> Call {
         match random.below(110) {
             0..=5 => Call::Validate,
-            6..=12 => Call::Container(self.any_number(random)),
+            6..=12 => Call::Climb(self.any_number(random)),
             13..=22 => Call::Sheet,
             23..=44 => self.draw_step(random),
             45..=56 => Call::Run,

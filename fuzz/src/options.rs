@@ -6,7 +6,7 @@ use crate::tally;
 
 pub const USAGE: &str =
     "usage: fuzz [--seed N] [--calls M] [--only CALL] [--exact] [--trace] [--spoil-start BUFFER | --spoil-end BUFFER]
-  CALL is validate, container, sheet, step, run, check, make, verdict, row or screen
+  CALL is validate, climb, sheet, step, run, check, make, verdict, exposed, row or screen
   BUFFER is itinerary, policy, table, script, answers or sheet";
 
 pub struct Options {

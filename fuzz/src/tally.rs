@@ -10,7 +10,7 @@ const ENOUGH: u64 = 200_000;
 /// The numbers that a call can answer beside 0 and, but for the row, 1 to 6.
 const OWN_NUMBERS: [(&str, &[u32]); 11] = [
     ("validate", &[]),
-    ("container", &[]),
+    ("climb", &[7]),
     ("sheet", &[8, 14]),
     ("step", &[10, 11, 12]),
     ("run", &[13]),

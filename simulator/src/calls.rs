@@ -53,11 +53,17 @@ pub fn validate(itinerary: &[u8]) -> Outcome {
     Ok(values(&[itinerary.count() as u16]))
 }
 
-pub fn container(itinerary: &[u8], number: u16) -> Outcome {
+/// The container and the number of the nearest boundary ambient above; both 0 for a
+/// number that is 0, over the count or a gone record's.
+pub fn climb(itinerary: &[u8], policy: &[u8], number: u16) -> Outcome {
     let itinerary = Itinerary::read(itinerary)?;
+    let policy = read_policy(policy)?;
     let stands = itinerary.get(number).is_some_and(|record| record.kind != Kind::Gone);
-    let container = if stands { itinerary.container(number) } else { 0 };
-    Ok(values(&[container as u16]))
+    if !stands {
+        return Ok(values(&[]));
+    }
+    let container = itinerary.container(number).into();
+    Ok(values(&[container, table::boundary_above(&itinerary, &policy, number)]))
 }
 
 pub fn sheet(itinerary: &[u8], table: &[u8], sheet: &mut [u8]) -> Outcome {

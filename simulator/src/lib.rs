@@ -25,9 +25,9 @@ pub fn validate(itinerary: &[u8]) -> Answer {
     calls::validate(itinerary).into()
 }
 
-/// Values: container.
-pub fn container(itinerary: &[u8], number: u16) -> Answer {
-    calls::container(itinerary, number).into()
+/// Values: container, number of the nearest boundary ambient above.
+pub fn climb(itinerary: &[u8], policy: &[u8], number: u16) -> Answer {
+    calls::climb(itinerary, policy, number).into()
 }
 
 /// Writes the observer's sheet.

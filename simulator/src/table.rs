@@ -292,6 +292,17 @@ pub fn exposed(policy: &Policy, table: &Table) -> bool {
     false
 }
 
+/// The number of the nearest boundary ambient above the record, 0 if there is none.
+pub fn boundary_above(itinerary: &Itinerary, policy: &Policy, number: u16) -> u16 {
+    for above in itinerary.above(number) {
+        let record = itinerary.records[above as usize - 1];
+        if record.kind == Kind::Ambient && policy[record.label as usize] == BOUNDARY {
+            return above;
+        }
+    }
+    0
+}
+
 /// Whether the record, or one above it, is a suspect ambient.
 pub fn hidden(itinerary: &Itinerary, table: &Table, number: u16) -> bool {
     let suspect = |number: u16| {

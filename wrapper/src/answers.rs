@@ -55,6 +55,15 @@ pub(crate) fn done(number: u32, record: u32) -> Result<(), Refusal> {
     }
 }
 
+/// What stands above a record.
+#[derive(Clone, Copy, Debug, Default, PartialEq, Eq, Hash)]
+pub struct Above {
+    /// The container: the label of the nearest ambient, 0 if there is none.
+    pub label: u8,
+    /// The number of the nearest boundary ambient, 0 if there is none.
+    pub boundary: u16,
+}
+
 /// The screen's finding, with the lowest label that shows it.
 #[derive(Clone, Copy, Debug, PartialEq, Eq, Hash)]
 pub enum Verdict {

@@ -5,7 +5,7 @@
 //! slices hold afterwards are in include/birnsket.h; [`Refusal::cause`] has a
 //! number's cause in words. The functions need no allocator and no operating
 //! system, but the archive is for x86-64 with the System V calling convention only,
-//! and a call needs 128 KiB of stack: on a target without a guard page below its
+//! and a call needs 32 KiB of stack: on a target without a guard page below its
 //! stack, see to that room yourself.
 //!
 //! Examples here use an itinerary of two ambients, label 2 in label 1, and an out
@@ -26,7 +26,7 @@ pub mod raw;
 mod tests;
 
 use answers::done;
-pub use answers::{Counts, Refusal, Screen, Verdict};
+pub use answers::{Above, Counts, Refusal, Screen, Verdict};
 
 pub const POLICY_LENGTH: usize = 64;
 pub const TABLE_LENGTH: usize = 1544;
@@ -62,21 +62,31 @@ pub fn validate(itinerary: &[u8]) -> Result<u32, Refusal> {
     Ok(result.records)
 }
 
-/// The label of the nearest ambient above a record; 0 where there is none, and for
-/// number 0, over the count or a gone record.
+/// What stands above a record: its container, and the nearest boundary ambient; zeros
+/// for number 0, over the count or a gone record.
 ///
-/// Refuses with 1 to 6, as [`validate`].
+/// Refuses with 1 to 6, as [`validate`]; 7 (length or a byte of the policy).
 ///
 /// ```
-/// let itinerary = [1, 1, 0, 0, 0, 0, 0, 0, 1, 2, 1, 0, 1, 0, 0, 0];
-/// assert_eq!(birnsket::container(&itinerary, 2), Ok(1));
-/// assert_eq!(birnsket::container(&itinerary, 3), Ok(0));
+/// use birnsket::{climb, Above, Refusal};
+///
+/// let itinerary =
+///     [1, 1, 0, 0, 0, 0, 0, 0, 1, 2, 1, 0, 1, 0, 0, 0, 3, 64, 0, 0, 2, 0, 0, 0];
+/// let mut policy = [0; birnsket::POLICY_LENGTH];
+/// (policy[1], policy[2]) = (2, 1);
+/// // The capability stands in label 2; above that is record 1, a boundary.
+/// assert_eq!(climb(&itinerary, &policy, 3), Ok(Above { label: 2, boundary: 1 }));
+/// // A record is not above itself, and there is no record 4.
+/// assert_eq!(climb(&itinerary, &policy, 1), Ok(Above { label: 0, boundary: 0 }));
+/// assert_eq!(climb(&itinerary, &policy, 4), Ok(Above { label: 0, boundary: 0 }));
+/// assert_eq!(climb(&itinerary, &[], 3), Err(Refusal { number: 7, record: 0 }));
 /// ```
-pub fn container(itinerary: &[u8], number: u16) -> Result<u8, Refusal> {
-    let result = unsafe { raw::hub_container(itinerary.as_ptr(), itinerary.len(), number) };
+pub fn climb(itinerary: &[u8], policy: &[u8], number: u16) -> Result<Above, Refusal> {
+    let result =
+        unsafe { raw::hub_climb(itinerary.as_ptr(), itinerary.len(), policy.as_ptr(), policy.len(), number) };
     done(result.number, result.record)?;
-    // A container's label is at most 63.
-    Ok(result.label as u8)
+    // A container is at most 63, a record's number at most 1,024.
+    Ok(Above { label: result.label as u8, boundary: result.boundary as u16 })
 }
 
 /// Writes the observer's sheet: each record that is neither hidden nor gone as in the

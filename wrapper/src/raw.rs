@@ -1,7 +1,7 @@
 //! The entries as the archive has them. What a caller owes is in include/birnsket.h.
 
 /// HUB_VERSION of the header that these declarations follow.
-pub const HUB_VERSION: u32 = 0x010100;
+pub const HUB_VERSION: u32 = 0x020000;
 
 /// Results: number and record 0 and the fields named where the call is done, else a refusal's number and record
 /// and zeros.
@@ -21,7 +21,7 @@ macro_rules! results {
 
 results! {
     HubValidateResult { records }
-    HubContainerResult { label }
+    HubClimbResult { label, boundary }
     HubSheetResult {}
     HubStepResult {}
     HubRunResult { ins, outs, opens }
@@ -41,7 +41,13 @@ type BytesMut = *mut u8;
 extern "C" {
     pub fn hub_version() -> u32;
     pub fn hub_validate(it: Bytes, it_len: usize) -> HubValidateResult;
-    pub fn hub_container(it: Bytes, it_len: usize, number: u16) -> HubContainerResult;
+    pub fn hub_climb(
+        it: Bytes,
+        it_len: usize,
+        policy: Bytes,
+        policy_len: usize,
+        number: u16,
+    ) -> HubClimbResult;
     pub fn hub_sheet(
         it: Bytes,
         it_len: usize,

@@ -54,8 +54,38 @@ fn example_a() {
     assert_eq!(screened(&A, &usual()), (5, vec![2], Verdict::Sealed));
     let itinerary = bytes(&A);
     assert_eq!(validate(&itinerary), Ok(2));
-    let containers: Vec<_> = (0..4).map(|number| container(&itinerary, number).unwrap()).collect();
-    assert_eq!(containers, [0, 0, 1, 0]);
+    let climbs = [0, 1, 2, 3, u16::MAX].map(|number| above(&itinerary, &usual(), number));
+    assert_eq!(climbs, [(0, 0), (0, 0), (1, 1), (0, 0), (0, 0)]);
+    assert_eq!(above(&itinerary, &[0; 64], 2), (1, 0));
+}
+
+/// Container and boundary of a climb that is done.
+fn above(itinerary: &[u8], policy: &[u8], number: u16) -> (u8, u16) {
+    let Above { label, boundary } = climb(itinerary, policy, number).unwrap();
+    (label, boundary)
+}
+
+#[test]
+fn climbs_past_capabilities_and_high_ambients() {
+    let itinerary = bytes(&[(1, 1, 0, 0), (1, 1, 0, 1), (1, 2, 1, 2), (4, 64, 0, 3), (2, 65, 0, 4)]);
+    let climbs = [1, 2, 3, 4, 5].map(|number| above(&itinerary, &usual(), number));
+    assert_eq!(climbs, [(0, 0), (1, 1), (1, 2), (2, 2), (2, 2)]);
+}
+
+#[test]
+fn climbs_refused() {
+    let ring = bytes(&[(1, 1, 0, 1)]);
+    let enter = |it: &[u8], policy: &[u8]| unsafe {
+        raw::hub_climb(it.as_ptr(), it.len(), policy.as_ptr(), policy.len(), 2)
+    };
+    let nothing = raw::HubClimbResult { number: 7, record: 0, label: 0, boundary: 0 };
+    assert_eq!(enter(&bytes(&A), &usual()[1..]), nothing);
+    assert_eq!(enter(&ring, &[]), raw::HubClimbResult { number: 6, record: 1, ..nothing });
+    assert_eq!(climb(&ring, &usual(), 0), Err(refusal(6, 1)));
+    assert_eq!(climb(&[0; 7], &[], 0), Err(refusal(1, 0)));
+    let mut spoilt = usual();
+    spoilt[63] = 3;
+    assert_eq!(climb(&bytes(&A), &spoilt, 0), Err(refusal(7, 0)));
 }
 
 #[test]
@@ -228,8 +258,8 @@ fn defined(name: &str) -> &'static str {
 
 #[test]
 fn the_header_has_the_same_numbers() {
-    assert_eq!(defined("HUB_VERSION "), "0x010100u");
-    assert_eq!((raw::HUB_VERSION, version()), (0x010100, 0x010100));
+    assert_eq!(defined("HUB_VERSION "), "0x020000u");
+    assert_eq!((raw::HUB_VERSION, version()), (0x020000, 0x020000));
     assert_eq!(defined("HUB_POLICY_LENGTH "), POLICY_LENGTH.to_string());
     assert_eq!(defined("HUB_TABLE_LENGTH "), TABLE_LENGTH.to_string());
 }

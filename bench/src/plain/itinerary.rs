@@ -1,7 +1,8 @@
 //! Records, validation and climbing.
 
 use super::refuse;
-use birnsket::Refusal;
+use super::tables::{is_policy, BOUNDARY};
+use birnsket::{Above, Refusal};
 
 pub const RECORD: usize = 8;
 pub const AMBIENT: u8 = 1;
@@ -67,7 +68,7 @@ fn fault(itinerary: &[u8], bytes: &[u8]) -> Option<u32> {
 /// Whether climbing from `number` reaches the environment. `known` marks numbers
 /// that do, so that no record is climbed from twice; a record right under one of
 /// them is settled at once.
-fn climb(itinerary: &[u8], known: &mut [bool; 1025], number: u16) -> bool {
+fn reaches(itinerary: &[u8], known: &mut [bool; 1025], number: u16) -> bool {
     if known[usize::from(Record::at(itinerary, number).parent)] {
         known[usize::from(number)] = true;
         return true;
@@ -89,23 +90,47 @@ fn climb(itinerary: &[u8], known: &mut [bool; 1025], number: u16) -> bool {
     true
 }
 
-/// The number of records, or the first of refusals 1 to 6.
-pub fn validate(itinerary: &[u8]) -> Result<u32, Refusal> {
+/// Refusals 1 to 5; then whether every parent has a lower number than its child.
+#[inline(always)]
+fn read_through(itinerary: &[u8]) -> Result<bool, Refusal> {
     if !itinerary.len().is_multiple_of(RECORD) || itinerary.len() > 8192 {
         return refuse(1);
     }
+    let mut in_order = true;
     for (place, bytes) in itinerary.chunks_exact(RECORD).enumerate() {
         if let Some(number) = fault(itinerary, bytes) {
             return Err(Refusal { number, record: place as u32 + 1 });
         }
+        in_order &= usize::from(Record::read(bytes).parent) <= place;
     }
+    Ok(in_order)
+}
+
+/// The number of records, or refusal 6.
+#[inline(always)]
+fn climb_all(itinerary: &[u8]) -> Result<u32, Refusal> {
     let count = (itinerary.len() / RECORD) as u16;
     let mut known = [false; 1025];
     known[0] = true;
-    match (1..=count).find(|&number| !climb(itinerary, &mut known, number)) {
+    match (1..=count).find(|&number| !reaches(itinerary, &mut known, number)) {
         Some(record) => Err(Refusal { number: 6, record: u32::from(record) }),
         None => Ok(u32::from(count)),
     }
+}
+
+/// The number of records, or the first of refusals 1 to 6.
+pub fn validate(itinerary: &[u8]) -> Result<u32, Refusal> {
+    read_through(itinerary)?;
+    climb_all(itinerary)
+}
+
+/// The same without a climb where every parent has a lower number, and so reaches the
+/// environment; says whether that is so.
+pub fn validate_skipping(itinerary: &[u8]) -> Result<(u32, bool), Refusal> {
+    if read_through(itinerary)? {
+        return Ok(((itinerary.len() / RECORD) as u32, true));
+    }
+    Ok((climb_all(itinerary)?, false))
 }
 
 /// What is not yet decided among the nearest labels.
@@ -134,23 +159,40 @@ fn nearest(itinerary: &[u8], labels: &mut [u8; 1025], number: u16) -> u8 {
     found
 }
 
-/// Only the environment is decided.
-fn undecided() -> [u8; 1025] {
-    let mut labels = [UNDECIDED; 1025];
-    labels[0] = 0;
-    labels
-}
-
 /// The label of the nearest ambient from each number on upwards.
 pub fn nearest_labels(itinerary: &[u8]) -> [u8; 1025] {
-    let mut labels = undecided();
+    let mut labels = [UNDECIDED; 1025];
+    labels[0] = 0;
     for number in 1..=(itinerary.len() / RECORD) as u16 {
         nearest(itinerary, &mut labels, number);
     }
     labels
 }
 
-pub fn container(itinerary: &[u8], number: u16) -> Result<u8, Refusal> {
+/// Container and nearest boundary ambient of a record.
+pub fn above(itinerary: &[u8], policy: &[u8], number: u16) -> Above {
+    let mut above = Above::default();
+    let mut at = Record::at(itinerary, number).parent;
+    while at != 0 {
+        let record = Record::at(itinerary, at);
+        if record.kind == AMBIENT {
+            if above.label == 0 {
+                above.label = record.label;
+            }
+            if policy[usize::from(record.label)] == BOUNDARY {
+                above.boundary = at;
+                break;
+            }
+        }
+        at = record.parent;
+    }
+    above
+}
+
+pub fn climb(itinerary: &[u8], policy: &[u8], number: u16) -> Result<Above, Refusal> {
     validate(itinerary)?;
-    Ok(nearest(itinerary, &mut undecided(), Record::at(itinerary, number).parent))
+    if !is_policy(policy) {
+        return refuse(7);
+    }
+    Ok(above(itinerary, policy, number))
 }

@@ -3,10 +3,11 @@
 mod closure;
 mod itinerary;
 mod sheet;
+pub mod skipping;
 mod steps;
 mod tables;
 
-pub use itinerary::{container, validate};
+pub use itinerary::{climb, validate};
 pub use sheet::sheet;
 pub use steps::{run, step};
 pub use tables::{check, exposed, make, passes, verdict};

@@ -35,15 +35,8 @@ fn mark(itinerary: &[u8], suspects: u64, marks: &mut [Mark; 1025], number: u16) 
     found
 }
 
-pub fn sheet(itinerary: &[u8], table: &[u8], sheet: &mut [u8]) -> Result<(), Refusal> {
-    validate(itinerary)?;
-    if !is_formed(table) {
-        return refuse(8);
-    }
-    if sheet.len() != itinerary.len() {
-        return refuse(14);
-    }
-    let suspects = Table::read(table).suspects;
+/// Writes the sheet by climbs.
+pub fn write_climbing(itinerary: &[u8], suspects: u64, sheet: &mut [u8]) {
     let mut marks = [Mark::Unknown; 1025];
     marks[0] = Mark::Shown;
     sheet.copy_from_slice(itinerary);
@@ -52,5 +45,16 @@ pub fn sheet(itinerary: &[u8], table: &[u8], sheet: &mut [u8]) -> Result<(), Ref
             record.fill(0);
         }
     }
+}
+
+pub fn sheet(itinerary: &[u8], table: &[u8], sheet: &mut [u8]) -> Result<(), Refusal> {
+    validate(itinerary)?;
+    if !is_formed(table) {
+        return refuse(8);
+    }
+    if sheet.len() != itinerary.len() {
+        return refuse(14);
+    }
+    write_climbing(itinerary, Table::read(table).suspects, sheet);
     Ok(())
 }

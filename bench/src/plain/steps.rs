@@ -74,7 +74,7 @@ fn apply(itinerary: &mut [u8], m: &Move) {
     }
 }
 
-fn act(itinerary: &mut [u8], actor: u16, partner: u16) -> Result<(), u8> {
+pub fn act(itinerary: &mut [u8], actor: u16, partner: u16) -> Result<(), u8> {
     let m = decide(itinerary, actor, partner)?;
     apply(itinerary, &m);
     Ok(())

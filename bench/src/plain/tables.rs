@@ -6,7 +6,7 @@ use super::refuse;
 use birnsket::{Refusal, Verdict, TABLE_LENGTH};
 
 const HIGH: u8 = 1;
-const BOUNDARY: u8 = 2;
+pub const BOUNDARY: u8 = 2;
 
 /// A table in words: the ambients and orders that may stand in a label, its names,
 /// and the suspects.
@@ -108,7 +108,7 @@ fn highs(policy: &[u8]) -> u64 {
     policy.iter().enumerate().fold(0, |found, (label, &class)| found | u64::from(class == HIGH) << label)
 }
 
-fn is_policy(policy: &[u8]) -> bool {
+pub fn is_policy(policy: &[u8]) -> bool {
     policy.len() == 64 && policy[0] == 0 && policy.iter().all(|&class| class <= BOUNDARY)
 }
 

@@ -1,6 +1,6 @@
 // The calls of the library as functions for callers in other languages. What a caller owes is in include/birnsket.h.
 use packing::check::HubCheckResult;
-use packing::container::HubContainerResult;
+use packing::climb::HubClimbResult;
 use packing::exposed::HubExposedResult;
 use packing::make::HubMakeResult;
 use packing::row::HubRowResult;
@@ -11,15 +11,15 @@ use packing::step::HubStepResult;
 use packing::validate::HubValidateResult;
 use packing::verdict::HubVerdictResult;
 ghost use mathlib.Core.Path.{_≡_};
-ghost use Rattle.model.specs.Calls.{checkAnswer, containerAnswer, exposedAnswer, makeAfter, makeAnswer, runAfter, runAnswer, runAnswers, screenAfter, screenAnswer, screenAnswers, sheetAfter, sheetAnswer, stepAfter, stepAnswer, validateAnswer, verdictAnswer};
-ghost use Rattle.packing.specs.Packing.{checkResult, containerResult, exposedResult, makeResult, rowResult, runResult, screenResult, sheetResult, stepResult, validateResult, verdictResult, version};
+ghost use Rattle.model.specs.Calls.{checkAnswer, climbAnswer, exposedAnswer, makeAfter, makeAnswer, runAfter, runAnswer, runAnswers, screenAfter, screenAnswer, screenAnswers, sheetAfter, sheetAnswer, stepAfter, stepAnswer, validateAnswer, verdictAnswer};
+ghost use Rattle.packing.specs.Packing.{checkResult, climbResult, exposedResult, makeResult, rowResult, runResult, screenResult, sheetResult, stepResult, validateResult, verdictResult, version};
 
 // The version of this interface; which change raises which part of it is in include/birnsket.h.
 #[no_mangle]
 pub extern "C" fn hub_version() -> u32
     ensures { λ r. ⌜ r ≡ version ⌝ }
 {
-    65792
+    131072
 }
 
 // Validates an itinerary: the number of records.
@@ -30,12 +30,12 @@ pub extern "C" fn hub_validate(it: &[u8]) -> HubValidateResult
     packing::validate::pack(calls::validate(it))
 }
 
-// The container of a record: its label.
+// What stands above a record: its container's label, and the number of the nearest boundary ambient.
 #[no_mangle]
-pub extern "C" fn hub_container(it: &[u8], number: u16) -> HubContainerResult
-    ensures { λ r. ⌜ r ≡ containerResult (containerAnswer (now (it .entry)) number) ⌝ }
+pub extern "C" fn hub_climb(it: &[u8], policy: &[u8], number: u16) -> HubClimbResult
+    ensures { λ r. ⌜ r ≡ climbResult (climbAnswer (now (it .entry)) (now (policy .entry)) number) ⌝ }
 {
-    packing::container::pack(calls::container(it, number))
+    packing::climb::pack(calls::climb(it, policy, number))
 }
 
 // Writes the observer's sheet.

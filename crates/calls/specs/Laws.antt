@@ -5,8 +5,8 @@ use mathlib.Core.Bool.{Bool}
 use mathlib.Core.List.{List}
 use mathlib.Core.Path.{_∙_, _≡_, ap, refl, sym}
 use Rattle.model.specs.Analysis.{permitAll}
-use Rattle.model.specs.Calls.{checking, containerAnswer, exposedAnswer, makeAfter, makeAnswer, making, outcomeCheck, runAfter, runAnswer, runAnswers, running, screenAfter, screenAnswer, screenAnswers, screening, sheetAfter, sheetAnswer, showing, stepAfter, stepAnswer, stepping, validateAnswer, verdictAnswer}
-use Rattle.model.specs.Climbing.{container}
+use Rattle.model.specs.Calls.{checking, climbAnswer, entry, exposedAnswer, makeAfter, makeAnswer, making, outcomeCheck, runAfter, runAnswer, runAnswers, running, screenAfter, screenAnswer, screenAnswers, screening, sheetAfter, sheetAnswer, showing, stepAfter, stepAnswer, stepping, validateAnswer, verdictAnswer}
+use Rattle.model.specs.Climbing.{enclosure}
 use Rattle.model.specs.Laws.Bytes.{valid-few, valid-whole}
 use Rattle.model.specs.Laws.Checks.{answer-done, answer-refused, content-kept, content-new, done-answer, refuse-answer, then-next, then-refuse}
 use Rattle.model.specs.Laws.Done.{list-valid}
@@ -20,6 +20,7 @@ use Rattle.model.specs.Steps.{outcome, stepBytes}
 use Rattle.model.specs.Tables.{bits, parts, total}
 use Rattle.model.specs.Validity.{validity}
 use Rattle.model.specs.Verdicts.{exposed, verdictOf}
+use Rattle.model.specs.declared.Above.{Above}
 use Rattle.model.specs.declared.Counts.{Counts}
 use Rattle.model.specs.declared.Outcome.{Outcome}
 use Rattle.model.specs.declared.Refusal.{Refusal}
@@ -37,13 +38,14 @@ module _ (s : List ℕ) where
   unfolding validateAnswer
   validate-done e n q = done-answer _ e q
 
-  pub container-refused : (i : ℕ) (r : Refusal) → validity s ≡ refuse (r .number) (r .record) → refusal r ≡ containerAnswer s i
-  unfolding containerAnswer
-  container-refused i r e = refuse-answer _ r e
+module _ (s policy : List ℕ) (i : ℕ) where
+  pub climb-refused : (r : Refusal) → entry s policy ≡ refuse (r .number) (r .record) → refusal r ≡ climbAnswer s policy i
+  unfolding climbAnswer
+  climb-refused r e = refuse-answer _ r e
 
-  pub container-done : (i : ℕ) → validity s ≡ pass → (l : ℕ) → l ≡ container (records s) i → done l ≡ containerAnswer s i
-  unfolding containerAnswer
-  container-done i e l q = done-answer _ e q
+  pub climb-done : (a : Above) → entry s policy ≡ pass → a ≡ enclosure policy (records s) i → done a ≡ climbAnswer s policy i
+  unfolding climbAnswer
+  climb-done a e q = done-answer _ e q
 
 module _ (s t d : List ℕ) where
   pub sheet-refused : (r : Refusal) → showing s t d ≡ refuse (r .number) (r .record) → (refusal r ≡ sheetAnswer s t d) × (d ≡ sheetAfter s t d)

@@ -1,7 +1,7 @@
 // Every call of the product, in the sequence of its definitions (Calls.antt of the model). A call is its sequence of checks
 // (where it has more than one, a function of `sequences`) and then what it does where they pass; none has a precondition.
 use model::Checked;
-use model::Contained;
+use model::Climbed;
 use model::Exposure;
 use model::Judged;
 use model::Made;
@@ -11,8 +11,8 @@ use model::Screened;
 use model::Validated;
 ghost use mathlib.Core.Path.{_≡_};
 ghost use Prim.Native.Nat.{_+_};
-ghost use Rattle.model.specs.Calls.{checkAnswer, containerAnswer, exposedAnswer, makeAfter, makeAnswer, rowOf, rowStart, runAfter, runAnswer, runAnswers, screenAfter, screenAnswer, screenAnswers, sheetAfter, sheetAnswer, stepAfter, stepAnswer, validateAnswer, verdictAnswer};
-ghost use Rattle.model.specs.Numbers.{containedAs, exposureAs, judgedAs, madeAs, performedAs, ranAs, screenedAs, validatedAs};
+ghost use Rattle.model.specs.Calls.{checkAnswer, climbAnswer, exposedAnswer, makeAfter, makeAnswer, rowOf, rowStart, runAfter, runAnswer, runAnswers, screenAfter, screenAnswer, screenAnswers, sheetAfter, sheetAnswer, stepAfter, stepAnswer, validateAnswer, verdictAnswer};
+ghost use Rattle.model.specs.Numbers.{climbedAs, exposureAs, judgedAs, madeAs, performedAs, ranAs, screenedAs, validatedAs};
 
 // Validation: refusals 1 to 6; the number of records.
 pub fn validate(it: &[u8]) -> Validated
@@ -24,14 +24,16 @@ pub fn validate(it: &[u8]) -> Validated
     }
 }
 
-// The container of a record: refusals 1 to 6; 0 for number 0, over the count or a gone record.
-pub fn container(it: &[u8], number: u16) -> Contained
-    ensures { λ r. ⌜ containedAs r ≡ containerAnswer (now (it .entry)) number ⌝ }
+// What stands above a record, its container and the nearest boundary ambient: refusals 1 to 6, 7; both 0 for number 0, over
+// the count or a gone record.
+pub fn climb(it: &[u8], policy: &[u8], number: u16) -> Climbed
+    ensures { λ r. ⌜ climbedAs r ≡ climbAnswer (now (it .entry)) (now (policy .entry)) number ⌝ }
 {
-    match validity::validity(it) {
-        Checked::Refuse(r) => Contained::Refused(r),
-        Checked::Pass => Contained::Done(climbing::container_of(it, number)),
+    let c = sequences::entry(it, policy);
+    if let Checked::Refuse(r) = c {
+        return Climbed::Refused(r);
     }
+    Climbed::Done(enclosures::enclosure_of(it, policy, number))
 }
 
 // The observer's sheet.

@@ -16,7 +16,7 @@ use Rattle.model.specs.Laws.Updates.{at-root}
 use Rattle.model.specs.Records.{decode, isAmbient, records}
 use Rattle.model.specs.declared.Rec.{Rec}
 use Rattle.records.specs.Climbs.{ambient-is, ambient-not, climb-lost, climb-on, climb-top}
-use Rattle.climbing.specs.Labels.{upFrom}
+use Rattle.climbing.specs.Up.{upFrom}
 
 -- climbing past ambients; r is record i
 module _ (s : List ℕ) (m : length s % 8 ≡ 0) (i : ℕ) (r : Rec) (e : r ≡ decode s i) where

@@ -1,4 +1,3 @@
--- Climbs that stop at what is decided, and climbs past ambients: what the contracts cite, and its laws.
-pub mod Labels
-pub mod Nearest
+-- Climbs past ambients: what the contracts cite, and its laws.
+pub mod Up
 pub mod Active

@@ -6,7 +6,7 @@ use lib.ListN.{drop, length, take}
 use mathlib.Core.Bool.{Bool, _&&_, false, true}
 use mathlib.Core.List.{List, []}
 use Rattle.model.specs.Analysis.{permitAll, holds}
-use Rattle.model.specs.Climbing.{container}
+use Rattle.model.specs.Climbing.{enclosure}
 use Rattle.model.specs.Least.{leastTable}
 use Rattle.model.specs.Observer.{sheetOf}
 use Rattle.model.specs.Records.{count, records}
@@ -16,6 +16,7 @@ use Rattle.model.specs.Steps.{Outcome, done-by, outcome, stepBytes, refu
 use Rattle.model.specs.Tables.{bits, parts, policyRight, tableRight, tableSized, total}
 use Rattle.model.specs.Validity.{validity}
 use Rattle.model.specs.Verdicts.{exposed, verdictOf}
+use Rattle.model.specs.declared.Above.{Above}
 use Rattle.model.specs.declared.Counts.{Counts}
 use Rattle.model.specs.declared.Screen.{Screen}
 use Rattle.model.specs.declared.Verdict.{Verdict}
@@ -24,9 +25,15 @@ use Rattle.model.specs.declared.Verdict.{Verdict}
 unfoldable pub validateAnswer : List ℕ → Answer ℕ
 validateAnswer s = answer (validity s) (count s)
 
--- container of a record: 1 to 6; 0 for number 0, over the count or a gone record
-unfoldable pub containerAnswer : List ℕ → ℕ → Answer ℕ
-containerAnswer s i = answer (validity s) (container (records s) i)
+-- what the calls with a policy look for first: 1 to 6, 7
+unfoldable pub entry : List ℕ → List ℕ → Check
+entry s policy =
+    validity s
+    ▸ need (policyRight policy) 7 0
+
+-- document 02, Job 2: 1 to 6, 7; "the container and that boundary's record number"
+unfoldable pub climbAnswer : List ℕ → List ℕ → ℕ → Answer Above
+climbAnswer s policy i = answer (entry s policy) (enclosure policy (records s) i)
 
 -- sheet: 1 to 6, 8, 14: "no policy and no check whether the table holds"
 unfoldable pub showing : List ℕ → List ℕ → List ℕ → Check
@@ -79,12 +86,6 @@ runAfter s script answers = content (running s script answers) (afterList permit
 -- the lent answers after the run
 unfoldable pub runAnswers : List ℕ → List ℕ → List ℕ → List ℕ
 runAnswers s script answers = content (running s script answers) (answersOf permitAll s (stepsIn script)) answers
-
--- what the calls with a policy look for first: 1 to 6, 7
-unfoldable pub entry : List ℕ → List ℕ → Check
-entry s policy =
-    validity s
-    ▸ need (policyRight policy) 7 0
 
 -- before a table is held against an itinerary: 1 to 6, 7, 8
 unfoldable pub comparing : List ℕ → List ℕ → List ℕ → Check

@@ -4,6 +4,8 @@ use lib.ListN.{length}
 use mathlib.Core.Bool.{Bool, _&&_, false, true}
 use mathlib.Core.List.{List}
 use Rattle.model.specs.Records.{at, isAmbient, parentOf}
+use Rattle.model.specs.Tables.{isBoundary}
+use Rattle.model.specs.declared.Above.{Above}
 use Rattle.model.specs.declared.Rec.{Rec}
 
 -- "Above" means reached by climbing, the record itself not counted: the record k + 1 climbs from i stands above i
@@ -52,6 +54,26 @@ nearest its i = view nesting its i
 -- 01's "container" of a record: "the label of the nearest ambient above it, or 0"
 abbrev pub container : List Rec → ℕ → ℕ
 container its i = nearest its (parentOf its i)
+
+-- document 02, Job 2, "boundary ambient": an ambient whose label's class is boundary
+unfoldable pub isBound : List ℕ → Rec → Bool
+isBound policy r = isAmbient r && isBoundary policy (r .label)
+
+-- the number of a boundary ambient, and otherwise what is above
+unfoldable pub bounded : List ℕ → ℕ → Rec → ℕ → ℕ
+bounded policy i r x = elim (isBound policy r) [ true ↦ i | false ↦ x ]
+
+-- the nearest label and the number of the nearest boundary ambient, both 0 at the environment
+abbrev pub enclosing : List ℕ → View Above
+enclosing policy = record {
+  top = record { label = 0; boundary = 0 };
+  lost = record { label = 0; boundary = 0 };
+  make = λ i r x. record { label = labelled r (x .label); boundary = bounded policy i r (x .boundary) };
+}
+
+-- Job 2: "the container and that boundary's record number, 0 if there is none", of what stands above record i
+abbrev pub enclosure : List ℕ → List Rec → ℕ → Above
+enclosure policy its i = view (enclosing policy) its (parentOf its i)
 
 -- the record is an ambient, and what is above is right
 unfoldable pub ambientAnd : Rec → Bool → Bool

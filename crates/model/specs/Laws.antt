@@ -26,6 +26,7 @@ pub mod Secrecy
 pub mod Conservation
 pub mod Made
 pub mod Exposure
+pub mod Enclosure
 pub mod Readings
 pub mod Moves
 pub mod Reductions

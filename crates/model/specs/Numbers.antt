@@ -21,8 +21,9 @@ use Rattle.model.specs.declared.Performed.{Performed}
 use Rattle.model.specs.declared.Performed.the-variants as performed
 use Rattle.model.specs.declared.Validated.{Validated}
 use Rattle.model.specs.declared.Validated.the-variants as validated
-use Rattle.model.specs.declared.Contained.{Contained}
-use Rattle.model.specs.declared.Contained.the-variants as contained
+use Rattle.model.specs.declared.Above.{Above}
+use Rattle.model.specs.declared.Climbed.{Climbed}
+use Rattle.model.specs.declared.Climbed.the-variants as climbed
 use Rattle.model.specs.declared.Made.{Made}
 use Rattle.model.specs.declared.Made.the-variants as made
 use Rattle.model.specs.declared.Judged.{Judged}
@@ -60,10 +61,10 @@ unfoldable pub validatedAs : Validated → Answer ℕ
 validatedAs (validated.Done n) = done n
 validatedAs (validated.Refused r) = refusal r
 
--- the container's label
-unfoldable pub containedAs : Contained → Answer ℕ
-containedAs (contained.Done label) = done label
-containedAs (contained.Refused r) = refusal r
+-- the container's label and the boundary's number
+unfoldable pub climbedAs : Climbed → Answer Above
+climbedAs (climbed.Done a) = done a
+climbedAs (climbed.Refused r) = refusal r
 
 -- the count of ones
 unfoldable pub madeAs : Made → Answer ℕ

@@ -65,9 +65,16 @@ pub enum Validated {
     Refused(Refusal),
 }
 
-// The answer of a container request: a label, 0 for the environment.
-pub enum Contained {
-    Done(u8),
+// What a climb finds above a record: the label of the nearest ambient and the number of the nearest boundary ambient, 0 for
+// none.
+pub struct Above {
+    pub label: u8,
+    pub boundary: u16,
+}
+
+// The answer of a climb.
+pub enum Climbed {
+    Done(Above),
     Refused(Refusal),
 }
 

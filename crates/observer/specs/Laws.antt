@@ -1,27 +1,30 @@
 -- Laws of the sheet as the code makes it.
-use Prim.Native.Nat.{_<_, _≤_, suc, zero, ℕ}
+use Prim.Native.Nat.{_-_, _<_, _≤_, suc, zero, ℕ}
 use lib.Dec.{eqb}
 use lib.ListN.{drop, drop-of-length-le, getD, length, length-replicate, length-set, set, take}
 use lib.Seq.{getD-set-other, getD-set-same, take-all}
-use mathlib.Core.Bool.{Bool, false, true}
+use mathlib.Core.Bool.{Bool, _||_, false, true}
 use mathlib.Core.List.{List, _++_, append-nil}
 use mathlib.Core.Logic.{_≢_}
 use mathlib.Core.Path.{_∙_, _≡_, ap, ap₂, refl, sym}
 use native.Mathlib.Decide.{ℕ-discrete}
 use native.Mathlib.Omega.{arith}
-use Rattle.model.specs.Climbing.{hidden, isSuspect}
+use Rattle.model.specs.Climbing.{climb, hidden, isSuspect}
 use Rattle.model.specs.Laws.Bytes.{valid-few, valid-wf}
 use Rattle.model.specs.Laws.Containers.{hidden-root, hidden-suspect, hidden-up}
 use Rattle.model.specs.Laws.Finite.{replicated}
 use Rattle.model.specs.Observer.{onSheet}
-use Rattle.model.specs.Records.{count, decode, gone, records}
+use Rattle.model.specs.Records.{count, decode, gone, parentOf, records}
 use Rattle.model.specs.Refusals.{pass}
 use Rattle.model.specs.Tables.{suspects}
 use Rattle.model.specs.Validity.{validity}
 use Rattle.model.specs.declared.Rec.{Rec}
 use Rattle.observer.specs.Marks.{Markable, Marked, markOf}
+use Rattle.ways.specs.Valid.{number-some, number-up, valid-passable}
 use Rattle.records.specs.Climbs.{ambient-is, zeros}
-use Rattle.climbing.specs.Nearest.{here}
+use Rattle.ways.specs.Valid.{here}
+use Rattle.ways.specs.Ways.{Leads, Passable}
+use Rattle.ways.specs.declared.Way.{Way}
 
 -- r is record i of a valid itinerary
 module _ (s : List ℕ) (v : validity s ≡ pass) (i : ℕ) (r : Rec) (e : r ≡ decode s i) (S : ℕ → Bool) where
@@ -30,6 +33,30 @@ module _ (s : List ℕ) (v : validity s ≡ pass) (i : ℕ) (r : Rec) (e : r ≡
 
   pub hidden-above : i ≢ 0 → isSuspect S r ≡ false → hidden (records s) S (r .parent) ≡ hidden (records s) S i
   hidden-above z h = ap (λ x. hidden (records s) S (x .parent)) (sym (here s v i r e)) ∙ sym (hidden-up (valid-wf s v) S i z (ap (isSuspect S) (here s v i r e) ∙ h))
+
+  -- it is hidden if it is suspect or its parent is hidden
+  pub hidden-or : i ≢ 0 → {b f : Bool} → b ≡ isSuspect S r → f ≡ hidden (records s) S (r .parent) → (b || f) ≡ hidden (records s) S i
+  hidden-or z {b} {f} q h = go b refl
+    where
+      go : (t : Bool) → b ≡ t → (t || f) ≡ hidden (records s) S i
+      go true u = sym (hidden-here (sym q ∙ u))
+      go false u = h ∙ hidden-above z (sym q ∙ u)
+
+-- from number k of a way, or from its top, to the number below; r is the record there
+module _ {s : List ℕ} (v : validity s ≡ pass) {i : ℕ} {w : Way} (g : Leads s i w) (k : ℕ) (l : 1 ≤ k) (m : k ≤ w .len) where
+  pub hidden-number : (S : ℕ → Bool) (r : Rec) → r ≡ decode s (getD (w .numbers) (k - 1) 0) → {b f : Bool} → b ≡ isSuspect S r →
+      f ≡ hidden (records s) S (climb (parentOf (records s)) k i) → (b || f) ≡ hidden (records s) S (getD (w .numbers) (k - 1) 0)
+  hidden-number S r e q h =
+      let u : k ≡ suc (k - 1) = omega arith in
+      let n = number-some v g (k - 1) (omega arith) in
+      let p = ap (λ (x : ℕ). climb (parentOf (records s)) x i) u ∙ number-up v g (k - 1) (omega arith) ∙ ap (λ x. x .parent) (sym e) in
+      hidden-or s v _ r e S (λ z. omega (arith, n, z)) q (h ∙ ap (hidden (records s) S) p)
+
+-- the mark that is set tells what was found
+pub found-told : (b : Bool) {m : ℕ} → m ≡ markOf b 1 → b ≡ eqb m 2
+unfolding markOf
+found-told true e = rw e
+found-told false e = rw e
 
 -- one mark more
 module _ {s table marks : List ℕ} (w : Marked s table marks) (i v : ℕ) (l : i < length marks) (z : 1 ≤ i) where
@@ -55,14 +82,9 @@ module _ {s table marks : List ℕ} (w : Markable s table marks) (i : ℕ) (r : 
           let v = m ∙ ap (λ t. markOf t (getD marks (r .parent) 0)) u in
           sym (hidden-above s (w .valid) i r e (suspects table) z (sym q ∙ u)) ∙ w .marked .told (r .parent) (λ o. n (v ∙ o)) ∙ ap (λ x. eqb x 2) (sym v)
 
-  -- or leave open
-  pub mark-open : k ≡ 0 → (isSuspect (suspects table) r ≡ false) × (getD marks (r .parent) 0 ≡ 0)
-  unfolding markOf
-  mark-open n = go b refl
-    where
-      go : (t : Bool) → b ≡ t → (isSuspect (suspects table) r ≡ false) × (getD marks (r .parent) 0 ≡ 0)
-      go true u = absurd (omega (arith, n, m ∙ ap (λ t. markOf t (getD marks (r .parent) 0)) u))
-      go false u = (sym q ∙ u, sym (m ∙ ap (λ t. markOf t (getD marks (r .parent) 0)) u) ∙ n)
+-- what the way asks for
+pub passable : {s table marks : List ℕ} → Markable s table marks → Passable s marks 0
+passable {s} w = valid-passable s (w .valid) (w .room) (λ e. omega (arith, w .marked .root, e))
 
 -- with other marks
 pub markable : {s table marks marks′ : List ℕ} → Markable s table marks → length marks′ ≡ length marks → Marked s table marks′ → Markable s table marks′

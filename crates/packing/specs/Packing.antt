@@ -5,7 +5,7 @@ use lib.ListN.{length}
 use mathlib.Core.Bool.{Bool}
 use mathlib.Core.List.{List}
 use Rattle.packing.specs.declared.check.HubCheckResult.{HubCheckResult}
-use Rattle.packing.specs.declared.container.HubContainerResult.{HubContainerResult}
+use Rattle.packing.specs.declared.climb.HubClimbResult.{HubClimbResult}
 use Rattle.packing.specs.declared.exposed.HubExposedResult.{HubExposedResult}
 use Rattle.packing.specs.declared.make.HubMakeResult.{HubMakeResult}
 use Rattle.packing.specs.declared.row.HubRowResult.{HubRowResult}
@@ -19,23 +19,24 @@ use Rattle.model.specs.Finite.{oneIf}
 use Rattle.model.specs.Calls.{rowOf, rowStart}
 use Rattle.model.specs.Numbers.{labelOf, verdictCode}
 use Rattle.model.specs.Refusals.{Answer, done, refused}
+use Rattle.model.specs.declared.Above.{Above}
 use Rattle.model.specs.declared.Counts.{Counts}
 use Rattle.model.specs.declared.Screen.{Screen}
 use Rattle.model.specs.declared.Verdict.{Verdict}
 
--- the interface's version, major * 65,536 + minor * 256 + patch: 1.1.0
+-- the interface's version, major * 65,536 + minor * 256 + patch: 2.0.0
 unfoldable pub version : ℕ
-version = 65792
+version = 131072
 
 -- validate: the number of records
 unfoldable pub validateResult : Answer ℕ → HubValidateResult
 validateResult (done n) = record { number = 0; «record» = 0; records = n }
 validateResult (refused n i) = record { number = n; «record» = i; records = 0 }
 
--- container: its label
-unfoldable pub containerResult : Answer ℕ → HubContainerResult
-containerResult (done n) = record { number = 0; «record» = 0; label = n }
-containerResult (refused n i) = record { number = n; «record» = i; label = 0 }
+-- climb: the container's label, and the boundary's number
+unfoldable pub climbResult : Answer Above → HubClimbResult
+climbResult (done a) = record { number = 0; «record» = 0; label = a .label; boundary = a .boundary }
+climbResult (refused n i) = record { number = n; «record» = i; label = 0; boundary = 0 }
 
 -- sheet: nothing but that it was done
 unfoldable pub sheetResult : Answer (Unit {0}) → HubSheetResult

@@ -1,7 +1,7 @@
 // The results of the calls for callers in other languages: a struct for each call, with number and record first, and how
 // an answer is packed into it. All fields have 32 bits, whatever they count.
 pub mod check;
-pub mod container;
+pub mod climb;
 pub mod exposed;
 pub mod make;
 pub mod row;

@@ -1,4 +1,4 @@
-// The calls of stored cases on an itinerary: validate, container, sheet, step, run.
+// The calls of stored cases on an itinerary: validate, climb, sheet, step, run.
 use crate::results;
 use replay_cases::Case;
 use replay_compare::Result;
@@ -8,9 +8,13 @@ fn validate(c: Case, held: &[u8]) -> Result {
     results::of_validated(calls::validate(replay_buffers::lent(held, rooms[1])))
 }
 
-fn container(c: Case, held: &[u8]) -> Result {
+fn climb(c: Case, held: &[u8]) -> Result {
     let rooms = c.rooms;
-    results::of_contained(calls::container(replay_buffers::lent(held, rooms[1]), c.x))
+    results::of_climbed(calls::climb(
+        replay_buffers::lent(held, rooms[1]),
+        replay_buffers::lent(held, rooms[2]),
+        c.x,
+    ))
 }
 
 // What a call writes beside its inputs is lent as a copy, since they all stand in one memory.
@@ -57,7 +61,7 @@ pub fn answer(c: Case, held: &mut [u8]) -> Result {
         return validate(c, held);
     }
     if c.call == 17 {
-        return container(c, held);
+        return climb(c, held);
     }
     if c.call == 18 {
         return sheet(c, held);

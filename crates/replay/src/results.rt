@@ -1,5 +1,5 @@
 // What each call answers, as stored cases have it: number and record of a refusal, or the values of a call that is done.
-use model::Contained;
+use model::Climbed;
 use model::Exposure;
 use model::Judged;
 use model::Made;
@@ -17,10 +17,10 @@ pub fn of_validated(v: Validated) -> Result {
     }
 }
 
-pub fn of_contained(c: Contained) -> Result {
+pub fn of_climbed(c: Climbed) -> Result {
     match c {
-        Contained::Done(label) => replay_compare::done(label as u32, 0, 0, 0),
-        Contained::Refused(r) => replay_compare::refused(r.number, r.record),
+        Climbed::Done(a) => replay_compare::done(a.label as u32, a.boundary as u32, 0, 0),
+        Climbed::Refused(r) => replay_compare::refused(r.number, r.record),
     }
 }
 

@@ -12,7 +12,7 @@ ghost use Rattle.model.specs.Refusals.{pass};
 ghost use Rattle.model.specs.Tables.{bits, isHigh, parts, suspects};
 ghost use Rattle.model.specs.Validity.{validity};
 ghost use Rattle.table_holds.specs.Tests.{nestingHolds, stood};
-ghost use Rattle.climbing.specs.Labels.{Nearests};
+ghost use Rattle.enclosures.specs.Notes.{Nearests};
 
 // Whether every high label is suspect.
 fn highs_hold(policy: &[u8], table: &[u8]) -> bool
@@ -72,14 +72,16 @@ fn nesting_holds_by_labels(it: &[u8], table: &[u8], labels: &[u8]) -> bool
 }
 
 // Whether every ambient and capability may stand where it stands and every ambient bear its name.
-fn nesting_holds(it: &[u8], table: &[u8]) -> bool
+fn nesting_holds(it: &[u8], policy: &[u8], table: &[u8]) -> bool
     requires { ⌜ validity (now it) ≡ pass ⌝ }
+    requires { ⌜ length (now policy) ≡ 64 ⌝ }
     requires { ⌜ length (now table) ≡ 1544 ⌝ }
     ensures { λ r. ⌜ r ≡ nestingHolds (records (now (it .entry))) (parts (bits (now (table .entry)))) ⌝ }
 {
     let mut labels = [255u8; 1025];
     labels[0] = 0;
-    climbing::nearest_labels(it, &mut labels);
+    let mut boundaries = [0u16; 1025];
+    enclosures::enclose(it, policy, &mut labels, &mut boundaries);
     nesting_holds_by_labels(it, table, &labels)
 }
 
@@ -93,7 +95,7 @@ pub fn holds(it: &[u8], policy: &[u8], table: &[u8]) -> bool
     if !highs_hold(policy, table) {
         return false;
     }
-    if !nesting_holds(it, table) {
+    if !nesting_holds(it, policy, table) {
         return false;
     }
     table_rules::rules_hold(it, table)

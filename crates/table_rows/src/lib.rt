@@ -51,8 +51,8 @@ fn close_pair(w: &mut [u64], movers: &[u64], p: usize, b: usize) -> u64
     let here = w[2 * p];
     let there = w[2 * b];
     let entered = or_into(w, 2 * b, here & movers[b]);
-    let left = or_into(w, 2 * p, there & movers[64 + b]);
-    let moved = entered | left;
+    let exited = or_into(w, 2 * p, there & movers[64 + b]);
+    let moved = entered | exited;
     if table_words::bit_of(movers[128 + b], p) {
         return moved | or_row(w, p, b);
     }

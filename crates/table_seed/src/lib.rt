@@ -7,7 +7,7 @@ ghost use Rattle.model.specs.Records.{count, records};
 ghost use Rattle.model.specs.Refusals.{pass};
 ghost use Rattle.model.specs.Tables.{bits, isHigh, placeS};
 ghost use Rattle.model.specs.Validity.{validity};
-ghost use Rattle.climbing.specs.Labels.{Nearests};
+ghost use Rattle.enclosures.specs.Notes.{Nearests};
 ghost use Rattle.table_words.specs.BitSets.{orAt};
 ghost use Rattle.table_partners.specs.Facts.{bearing, nameCell, nestingCell, standing};
 ghost use Rattle.table_seed.specs.Seeds.{CellsSet, Seeded};
@@ -84,14 +84,16 @@ fn fill_nesting_by_labels(it: &[u8], table: &mut [u8], labels: &[u8])
 }
 
 // Sets the bits of I that the itinerary's nesting asks for.
-fn fill_nesting(it: &[u8], table: &mut [u8])
+fn fill_nesting(it: &[u8], policy: &[u8], table: &mut [u8])
     requires { ⌜ validity (now it) ≡ pass ⌝ }
+    requires { ⌜ length (now policy) ≡ 64 ⌝ }
     requires { ⌜ length (now table) ≡ 1544 ⌝ }
     ensures { λ _. ⌜ CellsSet (standing (records (now (it .entry)))) (nestingCell (records (now (it .entry)))) (count (now (it .entry))) (bits (now (table .entry))) (bits (now (table .exit))) ⌝ }
 {
     let mut labels = [255u8; 1025];
     labels[0] = 0;
-    climbing::nearest_labels(it, &mut labels);
+    let mut boundaries = [0u16; 1025];
+    enclosures::enclose(it, policy, &mut labels, &mut boundaries);
     fill_nesting_by_labels(it, table, &labels);
 }
 
@@ -105,5 +107,5 @@ pub fn seed(it: &[u8], policy: &[u8], table: &mut [u8])
     clear(table);
     fill_names(it, &mut table[1024..1536]);
     fill_high(policy, table);
-    fill_nesting(it, table);
+    fill_nesting(it, policy, table);
 }

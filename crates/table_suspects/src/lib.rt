@@ -38,11 +38,11 @@ pub fn close_suspects(w: &mut [u64], movers: &[u64])
     ensures { λ _. ⌜ ((i : ℕ) → i < 192 → getD (now (w .exit)) i 0 ≡ getD (now (w .entry)) i 0) ⌝ }
 {
     let mut suspects = w[table_words::SUSPECTS];
-    let mut left: u64 = 18446744073709551615;
-    while suspects & left != 0 {
-        let b = u64::trailing_zeros(suspects & left) as usize;
+    let mut unseen: u64 = 18446744073709551615;
+    while suspects & unseen != 0 {
+        let b = u64::trailing_zeros(suspects & unseen) as usize;
         suspects |= made_suspect(w, movers, b);
-        left ^= 1u64 << b;
+        unseen ^= 1u64 << b;
     }
     w[table_words::SUSPECTS] = suspects;
 }

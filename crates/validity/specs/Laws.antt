@@ -10,7 +10,7 @@ use mathlib.Core.Path.{_∙_, _≡_, ap, refl, sym}
 use native.Mathlib.Decide.{decLe, ℕ-discrete}
 use native.Mathlib.Nat.{zero-lt-suc}
 use native.Mathlib.Omega.{arith}
-use Rattle.model.specs.Climbing.{reaches, reaching, viewFrom}
+use Rattle.model.specs.Climbing.{climb, reaches, reaching, viewFrom}
 use Rattle.model.specs.Laws.Bytes.{at-whole, length-records, size-le, size-whole, sound-record}
 use Rattle.model.specs.Laws.Checks.{each-pass, need-make, need-refuse, then-next, then-refuse}
 use Rattle.model.specs.Laws.Booleans.{and-left, bool-iff}
@@ -23,6 +23,9 @@ use Rattle.model.specs.Refusals.{eachOf, pass, refuse}
 use Rattle.model.specs.Validity.{climbCheck, form, parentRight, recordCheck, sizeRight}
 use Rattle.model.specs.declared.Rec.{Rec}
 use Rattle.validity.specs.Known.{Climbable, Enough, Known, Parented}
+use Rattle.ways.specs.Laws.{climb-end}
+use Rattle.ways.specs.Ways.{Leads, Passable}
+use Rattle.ways.specs.declared.Way.{Way}
 use Rattle.records.specs.Climbs.{climb-lost, climb-on, climb-top, zeros}
 
 -- the checks of a validation in order
@@ -86,6 +89,50 @@ reach-root s i e = climb-top reaching s (length (records s)) i e
 
 pub reach-none : {s : List ℕ} {left i : ℕ} → Enough s left i → i ≢ 0 → left ≡ 0 → reaches (records s) i ≡ false
 reach-none {s} {left} {i} w z e = sym (w .decides) ∙ climb-lost reaching s left i z e
+
+-- ---- a way up
+
+-- what the way asks for
+pub passable : {s known : List ℕ} → Climbable s known → Passable s known 0
+passable w = record { whole = w .parented .whole; parents = w .parented .parents; room = w .room; root = λ e. omega (arith, w .marks .root, e) }
+
+module _ {s : List ℕ} (p : Parented s) {i : ℕ} {w : Way} (g : Leads s i w) where
+  -- what is said of a number and of the number above it is said of both ends of a way
+  reach-way : (k : ℕ) → k ≤ w .len → reaches (records s) (climb (parentOf (records s)) k i) ≡ reaches (records s) i
+  reach-way zero l = refl
+  reach-way (suc k) l =
+      let r = g .records-all k (omega arith) in
+      let q = climb (parentOf (records s)) k i in
+      ap (reaches (records s)) (climb-end (parentOf (records s)) k i ∙ ap (λ r. r .parent) (at-whole s (p .whole) q))
+      ∙ reach-above p q (r .1) (λ z. omega (arith, r .0)) _ refl ∙ reach-way k (omega arith)
+
+  pub reach-top : reaches (records s) (w .top) ≡ reaches (records s) i
+  reach-top = ap (reaches (records s)) (g .top) ∙ reach-way (w .len) (omega arith)
+
+  pub reach-number : (k : ℕ) → k < w .len → reaches (records s) (getD (w .numbers) k 0) ≡ reaches (records s) i
+  reach-number k l = ap (reaches (records s)) (g .at k l) ∙ reach-way k (omega arith)
+
+  pub number-inside : (k : ℕ) → k < w .len → getD (w .numbers) k 0 ≤ count s
+  number-inside k l = rw (g .at k l) (g .records-all k l .1)
+
+  enough-way : {left : ℕ} (k : ℕ) → k ≤ w .len → k ≤ left → Enough s left i → Enough s (left - k) (climb (parentOf (records s)) k i)
+  enough-way {left} zero l m e = let u : left - 0 ≡ left = omega arith in rw u e
+  enough-way {left} (suc k) l m e =
+      let r = g .records-all k (omega arith) in
+      let q = climb (parentOf (records s)) k i in
+      let u : left - k - 1 ≡ left - suc k = omega arith in
+      let n = enough-above p q (r .1) (λ z. omega (arith, r .0)) _ refl (left - k) (λ z. omega arith) (enough-way k (omega arith) (omega arith) e) in
+      rw (climb-end (parentOf (records s)) k i ∙ ap (λ r. r .parent) (at-whole s (p .whole) q), sym u) n
+
+  pub enough-top : {left : ℕ} → w .len ≤ left → Enough s left i → Enough s (left - w .len) (w .top)
+  enough-top l e = rw (g .top) (enough-way (w .len) (omega arith) l e)
+
+  -- with fewer climbs left than the way has records, none reaches the environment
+  pub reach-short : {left : ℕ} → left < w .len → Enough s left i → reaches (records s) i ≡ false
+  reach-short {left} l e =
+      let q = climb (parentOf (records s)) left i in
+      let n = enough-way left (omega arith) (omega arith) e in
+      sym (reach-way left (omega arith)) ∙ reach-none n (λ z. omega (arith, g .records-all left l .0)) (omega arith)
 
 -- as many climbs as there are records decide
 pub enough-all : (s : List ℕ) (n i : ℕ) → n ≡ count s → i ≤ n → Enough s n i

@@ -46,3 +46,19 @@ pub fn environment_suspect() -> Itinerary {
         ],
     }
 }
+
+/// Ambients with capabilities between them, three deep, and at the end a capability.
+pub fn between() -> Itinerary {
+    Itinerary {
+        records: vec![
+            record(Kind::Ambient, 1, 0, 0),
+            record(Kind::Open, 64, 1, 1),
+            record(Kind::In, 65, 1, 2),
+            record(Kind::Ambient, 2, 1, 3),
+            record(Kind::Out, 66, 0, 4),
+            record(Kind::Ambient, 3, 2, 5),
+            record(Kind::In, 65, 2, 6),
+            record(Kind::Open, 64, 2, 7),
+        ],
+    }
+}

@@ -19,6 +19,11 @@ pub fn usual() -> Policy {
     of(&[2], &[1])
 }
 
+/// Low, high and boundary in turn.
+pub fn by_turns() -> Policy {
+    std::array::from_fn(|label| label as u8 % 3)
+}
+
 /// The usual one, one that differs from it in a few labels, or any.
 pub fn good(random: &mut Random) -> Policy {
     let mut policy = usual();

@@ -2,6 +2,7 @@
 
 use super::stream::{Buffer, Buffers, Call};
 use crate::answer::Answer;
+use crate::record::{Itinerary, Kind};
 use crate::table::{reached, verdict, Policy, Table, Verdict, BOUNDARY, HIGH};
 use std::collections::BTreeMap;
 
@@ -13,7 +14,7 @@ pub struct Counts {
 
 impl Counts {
     /// Notes an answer, and what can be told apart among answers of number 0.
-    pub fn note(&mut self, call: Call, answer: &Answer, after: &Buffers) {
+    pub fn note(&mut self, call: Call, x: u16, answer: &Answer, after: &Buffers) {
         self.add(call, format!("{:2}", answer.number));
         if answer.number != 0 {
             return;
@@ -21,6 +22,7 @@ impl Counts {
         match call {
             Call::Verdict => self.add_verdict(call, answer.values[0], answer.values[1]),
             Call::Screen => self.add_verdict(call, answer.values[0] / 256, answer.values[0] % 256),
+            Call::Climb => self.add_climb(x, after),
             Call::Exposed => self.add_exposed(answer.values[0] == 1, after),
             Call::Row if answer.values[1] == 0 => self.add(call, " 0 empty part".to_string()),
             _ => {}
@@ -44,6 +46,46 @@ impl Counts {
             _ => "sealed",
         };
         self.add(call, format!(" 0 {word}"));
+    }
+
+    /// What the number is, and what is met on the way up from a record that stands.
+    fn add_climb(&mut self, number: u16, after: &Buffers) {
+        let policy = Policy::try_from(&after.get(Buffer::Policy)[..]);
+        let (Ok(policy), Ok(itinerary)) = (policy, Itinerary::read(after.get(Buffer::Itinerary))) else {
+            return;
+        };
+        let word = match itinerary.get(number) {
+            None if number == 0 => "number 0",
+            None => "over the count",
+            Some(record) if record.kind == Kind::Gone => "gone",
+            Some(_) => return self.add_way(&itinerary, &policy, number),
+        };
+        self.add(Call::Climb, format!(" 0 {word}"));
+    }
+
+    fn add_way(&mut self, itinerary: &Itinerary, policy: &Policy, number: u16) {
+        let above = itinerary.above(number);
+        let is = |at: &u16, class: u8| {
+            let ambient = itinerary.get(*at).filter(|record| record.kind == Kind::Ambient);
+            ambient.is_some_and(|record| policy[record.label as usize] == class)
+        };
+        let places: Vec<usize> = (0..above.len()).filter(|&place| is(&above[place], BOUNDARY)).collect();
+        let below = &above[..places.first().copied().unwrap_or(above.len())];
+        let met = [
+            ("boundary right above", places.first() == Some(&0)),
+            ("boundary farther up", places.first().is_some_and(|&place| place > 0)),
+            ("several boundaries above", places.len() > 1),
+            ("no boundary above", places.is_empty()),
+            ("itself a boundary", is(&number, BOUNDARY)),
+            ("itself the only boundary", is(&number, BOUNDARY) && places.is_empty()),
+            ("capability before it", below.iter().any(|&at| !itinerary.is_ambient(at))),
+            ("high before it", below.iter().any(|at| is(at, HIGH))),
+            ("from a capability", !itinerary.is_ambient(number)),
+            ("parent of a higher number", above.first().is_some_and(|&parent| parent > number)),
+        ];
+        for (word, _) in met.into_iter().filter(|&(_, so)| so) {
+            self.add(Call::Climb, format!(" 0 {word}"));
+        }
     }
 
     /// Where the first high label can stand, or what the verdict is without one.
@@ -87,10 +129,28 @@ impl Counts {
     }
 }
 
+/// What the cases of the climb have to meet.
+const CLIMBS: [&str; 13] = [
+    "number 0",
+    "over the count",
+    "gone",
+    "boundary right above",
+    "boundary farther up",
+    "several boundaries above",
+    "no boundary above",
+    "itself a boundary",
+    "itself the only boundary",
+    "capability before it",
+    "high before it",
+    "from a capability",
+    "parent of a higher number",
+];
+
 /// Every answer that the call can get.
 fn reachable(call: Call) -> Vec<String> {
     let numbers: &[u8] = match call {
-        Call::Validate | Call::Container => &[],
+        Call::Validate => &[],
+        Call::Climb => &[7],
         Call::Sheet => &[8, 14],
         Call::Step => &[10, 11, 12],
         Call::Run => &[13],
@@ -103,6 +163,9 @@ fn reachable(call: Call) -> Vec<String> {
         (0..=6).chain(numbers.iter().copied()).map(|number: u8| format!("{number:2}")).collect();
     if matches!(call, Call::Verdict | Call::Screen) {
         all.extend(["exposed", "hinted", "hinted 0", "sealed"].map(|word| format!(" 0 {word}")));
+    }
+    if call == Call::Climb {
+        all.extend(CLIMBS.map(|word| format!(" 0 {word}")));
     }
     if call == Call::Exposed {
         let words = ["yes, by row 0", "yes, rows away", "no, hinted", "no, sealed", "no, behind a boundary"];

@@ -1,9 +1,11 @@
-//! Cases of validate, container, sheet, step and run.
+//! Cases of validate, climb, sheet, step and run, and behind them more of the climb.
 
+use super::climb_cases;
 use super::stream::{Buffer, Call};
 use super::writer::Writer;
 use super::Size;
 use crate::generate::damage::damage;
+use crate::generate::policies;
 use crate::generate::relabel::Relabel;
 use crate::generate::scripts::{any_step, capabilities, done_step, partners, script};
 use crate::generate::tables::{bad_length, forbidden_bit, noise, sparse};
@@ -13,9 +15,10 @@ use crate::random::Random;
 use crate::record::{Itinerary, Kind, MOST_RECORDS};
 use crate::table::{least, s_bit, Policy, Table};
 
-pub const CALLS: [Call; 5] = [Call::Validate, Call::Container, Call::Sheet, Call::Step, Call::Run];
+pub const CALLS: [Call; 5] = [Call::Validate, Call::Climb, Call::Sheet, Call::Step, Call::Run];
 
 pub fn write(writer: &mut Writer, random: &mut Random, size: Size) {
+    writer.put(Buffer::Policy, &policies::by_turns());
     lengths(writer, random, size);
     for round in 0..size.times(520) {
         let mix = if round % 4 == 0 { Mix::lively(random) } else { Mix::small(random) };
@@ -38,6 +41,7 @@ pub fn write(writer: &mut Writer, random: &mut Random, size: Size) {
         refused_inputs(writer, random, round);
     }
     full(writer, random, size);
+    climb_cases::write(writer, random, size);
 }
 
 fn itinerary_now(writer: &Writer) -> Itinerary {
@@ -56,7 +60,7 @@ fn each_call(writer: &mut Writer, random: &mut Random) {
     let (actor, partner) = any_step(random, &itinerary_now(writer));
     for call in CALLS {
         let (x, y) = match call {
-            Call::Container => (actor, 0),
+            Call::Climb => (actor, 0),
             Call::Step => (actor, partner),
             _ => (0, 0),
         };
@@ -116,7 +120,7 @@ fn small(writer: &mut Writer, random: &mut Random, mix: &Mix) {
     writer.call(Call::Validate, 0, 0);
     let count = itinerary.count() as u16;
     for number in (0..=count + 1).chain([1025, 65535]).filter(|&number| number < 14 || number > count) {
-        writer.call(Call::Container, number, 0);
+        writer.call(Call::Climb, number, 0);
     }
     writer.call(Call::Sheet, 0, 0);
     let rounds = random.between(1, 4);
@@ -146,7 +150,7 @@ fn steps(writer: &mut Writer, random: &mut Random, rounds: usize) {
         let now = itinerary_now(writer);
         if let Some((actor, partner)) = done_step(random, &now) {
             writer.call(Call::Step, actor, partner);
-            writer.call(Call::Container, partner, 0);
+            writer.call(Call::Climb, partner, 0);
         }
     }
 }
@@ -266,7 +270,7 @@ fn large(writer: &mut Writer, random: &mut Random, itinerary: &Itinerary) {
     writer.put(Buffer::Sheet, &bytes);
     writer.call(Call::Validate, 0, 0);
     for number in [0, 1, 2, 512, 1022, 1023, 1024, 1025, 65535] {
-        writer.call(Call::Container, number, 0);
+        writer.call(Call::Climb, number, 0);
     }
     writer.call(Call::Sheet, 0, 0);
     for (actor, partner) in [(1, 2), (1, 3), (1024, 1022), (1024, 1), (0, 1)] {

@@ -38,7 +38,7 @@ impl Buffer {
 #[derive(Clone, Copy, Debug, PartialEq, Eq, PartialOrd, Ord)]
 pub enum Call {
     Validate = 16,
-    Container,
+    Climb,
     Sheet,
     Step,
     Run,
@@ -53,7 +53,7 @@ pub enum Call {
 impl Call {
     pub const ALL: [Call; 11] = [
         Call::Validate,
-        Call::Container,
+        Call::Climb,
         Call::Sheet,
         Call::Step,
         Call::Run,
@@ -91,7 +91,7 @@ pub fn perform(law: Law, call: Call, x: u16, y: u16, buffers: &mut Buffers) -> A
     let [itinerary, policy, table, script, answers, sheet] = &mut buffers.contents;
     let outcome = match call {
         Call::Validate => calls::validate(itinerary),
-        Call::Container => calls::container(itinerary, x),
+        Call::Climb => calls::climb(itinerary, policy, x),
         Call::Sheet => calls::sheet(itinerary, table, sheet),
         Call::Step => calls::step(law, itinerary, x, y),
         Call::Run => calls::run(law, itinerary, script, answers),

@@ -143,7 +143,7 @@ impl Writer {
         for &value in &answer.values[..used] {
             put_number(&mut self.out, value.into());
         }
-        self.counts.note(call, &answer, &after);
+        self.counts.note(call, x, &answer, &after);
         self.now = after;
         answer
     }

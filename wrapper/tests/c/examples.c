@@ -111,7 +111,7 @@ static void example_a(void)
 {
     uint8_t sheet[sizeof example];
     HubValidateResult validated = hub_validate(example, two);
-    HubContainerResult contained = hub_container(example, two, 2);
+    HubClimbResult climbed = hub_climb(example, two, usual, sizeof usual, 2);
     HubMakeResult made;
     HubCheckResult checked;
     HubVerdictResult judged;
@@ -119,7 +119,13 @@ static void example_a(void)
     HubSheetResult shown;
     HubRowResult row;
     expect("A has two records", DONE(validated) && validated.records == 2);
-    expect("A: record 2 stands in 1", DONE(contained) && contained.label == 1);
+    expect("A: record 2 stands in 1, a boundary", DONE(climbed) && climbed.label == 1 && climbed.boundary == 1);
+    climbed = hub_climb(example, two, low, sizeof low, 2);
+    expect("A: without boundaries", DONE(climbed) && climbed.label == 1 && climbed.boundary == 0);
+    climbed = hub_climb(example, two, usual, sizeof usual, 1);
+    expect("A: nothing above record 1", DONE(climbed) && climbed.label == 0 && climbed.boundary == 0);
+    climbed = hub_climb(example, two, usual, sizeof usual, 3);
+    expect("A: no record 3", DONE(climbed) && climbed.label == 0 && climbed.boundary == 0);
     memset(table, 0xff, sizeof table);
     made = hub_make(example, two, usual, sizeof usual, table, sizeof table);
     expect("A has five bits", DONE(made) && made.bits == 5);
@@ -144,7 +150,7 @@ static void refusals(void)
 {
     uint8_t work[sizeof example], bytes[sizeof example];
     const uint8_t script[] = {3, 0, 1, 0};
-    HubContainerResult contained = hub_container(example, 7, 1);
+    HubClimbResult climbed = hub_climb(example, 7, usual, 63, 1);
     HubSheetResult shown;
     HubMakeResult made;
     HubCheckResult checked;
@@ -152,7 +158,9 @@ static void refusals(void)
     HubExposedResult asked;
     HubRunResult ran;
     HubScreenResult screened;
-    expect("seven bytes", REFUSED(contained, HUB_REFUSED_LENGTH, 0));
+    expect("seven bytes", REFUSED(climbed, HUB_REFUSED_LENGTH, 0));
+    climbed = hub_climb(example, two, usual, 63, 2);
+    expect("a climb with a short policy", REFUSED(climbed, HUB_REFUSED_POLICY, 0));
     memset(bytes, 7, sizeof bytes);
     shown = hub_sheet(example, two, table, sizeof table, bytes, two - 1);
     expect("a short sheet", REFUSED(shown, HUB_REFUSED_SHEET, 0));

@@ -3,7 +3,7 @@ use borrow.Author.Needs.{needs}
 use mathlib.Core.Path.{sym}
 use native.Mathlib.Omega.{arith}
 use Rattle.observer.specs.Laws.{mark-decided, mark-more}
-use Rattle.climbing.specs.Nearest.{label-small, parent-near}
+use Rattle.ways.specs.Valid.{label-small, parent-near}
 use Rattle.observer.proofs.settled.Statement.{statement}
 use Rattle.observer.proofs.settled.Tie as tie
 

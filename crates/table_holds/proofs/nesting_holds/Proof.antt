@@ -1,23 +1,32 @@
 -- `table_holds::nesting_holds` meets its contract. The labels found are the nearest from each number on upwards.
 use borrow.Author.Needs.{needs}
-use Rattle.climbing.specs.Nearest.{labels-are, labels-root}
+use Rattle.enclosures.specs.Laws.{labels-are, notes-root}
 use Rattle.table_holds.proofs.nesting_holds.Statement.{statement}
 use Rattle.table_holds.proofs.nesting_holds.Tie as tie
 
 array-write-labels : tie.Need-array-write-labels
 array-write-labels c = search needs
 
-slice-aggregate-nearest-labels : tie.Need-slice-aggregate-nearest-labels
-slice-aggregate-nearest-labels c = search needs
+slice-aggregate-enclose : tie.Need-slice-aggregate-enclose
+slice-aggregate-enclose c = search needs
 
-nearest-labels-requires : tie.Need-nearest-labels-requires
-nearest-labels-requires c κs = labels-root (c .before .before .before .pre .0)
+slice-aggregate-enclose-2 : tie.Need-slice-aggregate-enclose-2
+slice-aggregate-enclose-2 c = search needs
+
+enclose-requires : tie.Need-enclose-requires
+enclose-requires c κs =
+    let pre = c .before .before .before .before .before .pre in
+    notes-root (pre .0) (pre .1 .0)
 
 slice-aggregate-nesting-holds-by-labels : tie.Need-slice-aggregate-nesting-holds-by-labels
 slice-aggregate-nesting-holds-by-labels c = search needs
 
 nesting-holds-by-labels-requires : tie.Need-nesting-holds-by-labels-requires
-nesting-holds-by-labels-requires c κs = let s = c .before .before .before .before .before .before in (s .pre .0, (s .pre .1, labels-are _ (labels-root (s .pre .0) .room) (c .before .before .nearest-labels .ensures)))
+nesting-holds-by-labels-requires c κs =
+    let noted = c .before .before .before in
+    let start = noted .before .before .before .before .before .before in
+    let pre = start .pre in
+    (pre .0, (pre .1 .1, labels-are (start .args .policy .now) _ (notes-root {policy = start .args .policy .now} (pre .0) (pre .1 .0) .room) (noted .enclose .ensures .0)))
 
 returns : tie.Need-returns
 returns c = search needs
@@ -27,8 +36,9 @@ nesting-holds-spec =
     tie.close
     (tie.spec
     array-write-labels
-    slice-aggregate-nearest-labels
-    nearest-labels-requires
+    slice-aggregate-enclose
+    slice-aggregate-enclose-2
+    enclose-requires
     slice-aggregate-nesting-holds-by-labels
     nesting-holds-by-labels-requires
     returns)

@@ -18,7 +18,7 @@ use Rattle.table_partners.specs.Facts.{standing}
 use Rattle.table_partners.specs.Laws.{read-shape}
 use Rattle.table_partners.specs.Standing.{stands, stands-not}
 use Rattle.tables.specs.Loops.{all-pass, one-fails}
-use Rattle.climbing.specs.Nearest.{parent-near}
+use Rattle.ways.specs.Valid.{parent-near}
 use Rattle.table_holds.proofs.nesting_holds_by_labels.Statement.{statement}
 use Rattle.table_holds.proofs.nesting_holds_by_labels.Tie as tie
 

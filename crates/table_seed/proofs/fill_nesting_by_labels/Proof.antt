@@ -13,7 +13,7 @@ use Rattle.model.specs.Tables.{bits}
 use Rattle.table_partners.specs.Facts.{nestingCell, standing}
 use Rattle.table_partners.specs.Standing.{stands, stands-not}
 use Rattle.model.specs.Laws.Bytes.{valid-few}
-use Rattle.climbing.specs.Nearest.{parent-near}
+use Rattle.ways.specs.Valid.{parent-near}
 use Rattle.table_seed.proofs.fill_nesting_by_labels.Statement.{statement}
 use Rattle.table_seed.proofs.fill_nesting_by_labels.Tie as tie
 

@@ -39,7 +39,7 @@ returns c =
     let z = f .before .before .before .before in
     let s = z .before .before .before .before .before in
     let l : length (z .clear .last .0) ≡ 1544 = z .clear .kept .0 ∙ s .pre .1 .1 in
-    seeded (s .args .it .now) (s .args .policy .now) (z .clear .last .0) (f .fill-names .last .1 .0) (h .fill-high .last .1 .0) (n .last .1 .0) (s .pre .0) l (z .clear .ensures)
+    seeded (s .args .it .now) (s .args .policy .now) (z .clear .last .0) (f .fill-names .last .1 .0) (h .fill-high .last .1 .0) (n .last .1 .1 .0) (s .pre .0) l (z .clear .ensures)
     (f .fill-names .kept .1 .0 ∙ part-long (z .clear .last .0) l) (f .fill-names .ensures) (h .fill-high .ensures) (n .ensures)
 
 pub seed-spec : {M : Type 1} → statement M

@@ -1,5 +1,5 @@
 -- `table_suspects::close_suspects` meets its contract. The loop's invariant (`SuspectsGrowing`): the suspects found lie in
--- every set that has the rules, and what those no longer in `left` make suspect is among them; `left` falls, for the bit of
+-- every set that has the rules, and what those no longer in `unseen` make suspect is among them; `unseen` falls, for the bit of
 -- the one taken is cleared.
 use Prim.Native.Nat.{_%_, _*_, _<_, _^_, _≤_, ℕ}
 use Rattle.table_suspects.specs.Suspects.{SuspectsGrowing, suspects-end, suspects-next, suspects-none, suspects-same}
@@ -16,10 +16,10 @@ use Rattle.table_suspects.proofs.close_suspects.Statement.{statement}
 use Rattle.table_suspects.proofs.close_suspects.Tie as tie
 
 abbrev Inv-loop : tie.InvT-loop
-Inv-loop w movers suspects₀ left₀ suspects left = (left ≤ 18446744073709551615) × SuspectsGrowing movers w suspects left
+Inv-loop w movers suspects₀ unseen₀ suspects unseen = (unseen ≤ 18446744073709551615) × SuspectsGrowing movers w suspects unseen
 
 abbrev μ-loop : tie.MeasureT-loop
-μ-loop w movers suspects₀ left₀ suspects left = left
+μ-loop w movers suspects₀ unseen₀ suspects unseen = unseen
 
 slice-read-suspects : tie.Need-slice-read-suspects Inv-loop μ-loop
 slice-read-suspects c = omega arith
@@ -27,12 +27,12 @@ slice-read-suspects c = omega arith
 loop-holds : tie.Need-loop-holds Inv-loop μ-loop
 loop-holds c = let a = c .before .before .before .args in (le-refl _, suspects-none (a .movers .now) (a .w .now))
 
-low-bit : (c : tie.In-loop Inv-loop μ-loop) → Lowest (bitAnd (c .before .loop .suspects) (c .before .loop .left)) (trailingZeros 64 (bitAnd (c .before .loop .suspects) (c .before .loop .left))) 64
+low-bit : (c : tie.In-loop Inv-loop μ-loop) → Lowest (bitAnd (c .before .loop .suspects) (c .before .loop .unseen)) (trailingZeros 64 (bitAnd (c .before .loop .suspects) (c .before .loop .unseen))) 64
 low-bit c =
     let l = c .before .loop in
-    let h = and-le-r (l .suspects) (l .left) in
+    let h = and-le-r (l .suspects) (l .unseen) in
     let k = l .inv .0 in
-    lowest-one 64 (bitAnd (l .suspects) (l .left)) (omega arith) (c .loop-test .taken)
+    lowest-one 64 (bitAnd (l .suspects) (l .unseen)) (omega arith) (c .loop-test .taken)
 
 cast-b : tie.Need-cast-b Inv-loop μ-loop
 cast-b c = let h = low-bit c .below in omega arith
@@ -40,15 +40,15 @@ cast-b c = let h = low-bit c .below in omega arith
 made-suspect-requires : tie.Need-made-suspect-requires Inv-loop μ-loop
 made-suspect-requires c κs = let s = c .before .before .before .before .before .before in (s .pre .0, (s .pre .1, low-bit (c .before) .below))
 
-shl-left : tie.Need-shl-left Inv-loop μ-loop
-shl-left c = let h = low-bit (c .before .before) .below in omega arith
+shl-unseen : tie.Need-shl-unseen Inv-loop μ-loop
+shl-unseen c = let h = low-bit (c .before .before) .below in omega arith
 
-fewer : (c : tie.After-made-suspect Inv-loop μ-loop) → bitXor (c .before .before .before .loop .left) ((1 * 2 ^ trailingZeros 64 (bitAnd (c .before .before .before .loop .suspects) (c .before .before .before .loop .left))) % 2 ^ 64) < c .before .before .before .loop .left
+fewer : (c : tie.After-made-suspect Inv-loop μ-loop) → bitXor (c .before .before .before .loop .unseen) ((1 * 2 ^ trailingZeros 64 (bitAnd (c .before .before .before .loop .suspects) (c .before .before .before .loop .unseen))) % 2 ^ 64) < c .before .before .before .loop .unseen
 fewer c =
     let l = c .before .before .before .loop in
     let o = low-bit (c .before .before) in
-    let b = trailingZeros 64 (bitAnd (l .suspects) (l .left)) in
-    subst (λ (x : ℕ). bitXor (l .left) x < l .left) (sym (one-shl b 64 (o .below))) (xor-less (l .left) b (and-r (l .suspects) (l .left) b (o .bit)))
+    let b = trailingZeros 64 (bitAnd (l .suspects) (l .unseen)) in
+    subst (λ (x : ℕ). bitXor (l .unseen) x < l .unseen) (sym (one-shl b 64 (o .below))) (xor-less (l .unseen) b (and-r (l .suspects) (l .unseen) b (o .bit)))
 
 loop-less : tie.Need-loop-less Inv-loop μ-loop
 loop-less c = fewer c
@@ -61,7 +61,7 @@ loop-again c =
     let o = low-bit (c .before .before) in
     let f = fewer c in
     let h = l .inv .0 in
-    (omega arith, suspects-next (a .movers .now) (a .w .now) (l .suspects) (l .left) _ (c .made-suspect .result) (l .inv .1) (o .below) (o .bit) (c .made-suspect .ensures))
+    (omega arith, suspects-next (a .movers .now) (a .w .now) (l .suspects) (l .unseen) _ (c .made-suspect .result) (l .inv .1) (o .below) (o .bit) (c .made-suspect .ensures))
 
 slice-write-w : tie.Need-slice-write-w Inv-loop μ-loop
 slice-write-w c = omega arith
@@ -73,8 +73,8 @@ returns : tie.Need-returns Inv-loop μ-loop
 returns c =
     let a = c .before .before .before .before .before .args in
     let l = c .before .loop in (
-      suspects-end (a .movers .now) (a .w .now) (l .suspects) (l .left) (omega arith) (l .inv .1) (c .loop-test .left),
-      suspects-same (a .movers .now) (a .w .now) (l .suspects) (l .left) (omega arith),
+      suspects-end (a .movers .now) (a .w .now) (l .suspects) (l .unseen) (omega arith) (l .inv .1) (c .loop-test .left),
+      suspects-same (a .movers .now) (a .w .now) (l .suspects) (l .unseen) (omega arith),
     )
 
 pub close-suspects-spec : {M : Type 1} → statement M
@@ -87,7 +87,7 @@ close-suspects-spec =
     loop-holds
     cast-b
     made-suspect-requires
-    shl-left
+    shl-unseen
     loop-less
     loop-again
     slice-write-w

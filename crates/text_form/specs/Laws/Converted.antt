@@ -68,15 +68,15 @@ unfolding noItinerary
 none-length = refl
 
 -- what is filled into bytes: so many of them, at their start
-abbrev pub Filled : List ℕ → List ℕ → List ℕ → ℕ → Type 0
-Filled w it it′ r = (r ≡ length w) × (it′ ≡ over w it) × (r ≤ length it′)
+abbrev pub FilledWith : List ℕ → List ℕ → List ℕ → ℕ → Type 0
+FilledWith w it it′ r = (r ≡ length w) × (it′ ≡ over w it) × (r ≤ length it′)
 
-none-filled : (w it it′ : List ℕ) (r : ℕ) → noItinerary ≡ w → length it ≡ 8192 → length it′ ≡ length it → (r ≡ length noItinerary) × (it′ ≡ over noItinerary it) → Filled w it it′ r
+none-filled : (w it it′ : List ℕ) (r : ℕ) → noItinerary ≡ w → length it ≡ 8192 → length it′ ≡ length it → (r ≡ length noItinerary) × (it′ ≡ over noItinerary it) → FilledWith w it it′ r
 none-filled w it it′ r e long k h = (h .0 ∙ ap length e, h .1 ∙ ap (λ x. over x it) e, omega (arith, h .0, none-length))
 
 -- into 8,192 bytes there is room for every record
 module _ (readable : Bool) (text it : List ℕ) (long : length it ≡ 8192) (it′ : List ℕ) (kept : length it′ ≡ length it) where
-  pub convert-unread : (r : ℕ) → readable ≡ false → (r ≡ length noItinerary) × (it′ ≡ over noItinerary it) → Filled (converted readable text) it it′ r
+  pub convert-unread : (r : ℕ) → readable ≡ false → (r ≡ length noItinerary) × (it′ ≡ over noItinerary it) → FilledWith (converted readable text) it it′ r
   unfolding converted
   convert-unread r b h = none-filled _ it it′ r (rw b) long kept h
 
@@ -87,7 +87,7 @@ module _ (readable : Bool) (text it : List ℕ) (long : length it ≡ 8192) (it�
   same-scan : scan (roomIn it) text ≡ scan 1024 text
   same-scan = ap (λ n. scan n text) room
 
-  pub convert-read : (k : ℕ) → readable ≡ true → Records k ≡ readAnswer text it → it′ ≡ readAfter text it → Filled (converted readable text) it it′ (8 * k)
+  pub convert-read : (k : ℕ) → readable ≡ true → Records k ≡ readAnswer text it → it′ ≡ readAfter text it → FilledWith (converted readable text) it it′ (8 * k)
   unfolding readAnswer linesAnswer scanAnswer readAfter readInto bytesOf placed
   convert-read k b e h =
       let whole = records-none _ k _ _ e in
@@ -98,7 +98,7 @@ module _ (readable : Bool) (text it : List ℕ) (long : length it ≡ 8192) (it�
       (sym (ap length w ∙ length-encode _ ∙ omega (arith, n, m, whole .1)), h ∙ rw (same-scan, f) (ap (λ x. over x it) (sym w)), omega (arith, read-fits text it k e))
 
   pub convert-fault : (r l c : ℕ) (it₁ : List ℕ) → readable ≡ true → Fault l c ≡ readAnswer text it → it₁ ≡ readAfter text it → (r ≡ length noItinerary) × (it′ ≡ over noItinerary it₁) →
-      Filled (converted readable text) it it′ r
+      FilledWith (converted readable text) it it′ r
   unfolding readAnswer linesAnswer scanAnswer readAfter readInto converted bytesOr
   convert-fault r l c it₁ b e g h =
       let faulty = fault-some _ l c _ _ e in

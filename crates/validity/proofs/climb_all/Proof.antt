@@ -28,14 +28,14 @@ loop-holds c = (c .before .before .pre .0, refl, search needs, rest-start _ _)
 add-lowest : tie.Need-add-lowest Inv-loop μ-loop
 add-lowest c = search needs
 
-climb-requires : tie.Need-climb-requires Inv-loop μ-loop
-climb-requires c κs = (c .before .before .loop .inv .0, enough-all _ _ _ (c .before .before .before .before .before .pre .1) (omega arith), omega arith)
+settled-requires : tie.Need-settled-requires Inv-loop μ-loop
+settled-requires c κs = (c .before .before .loop .inv .0, enough-all _ _ _ (c .before .before .before .before .before .pre .1) (omega arith), omega arith)
 
 same-length : tie.Need-same-length Inv-loop μ-loop
 same-length c =
     let climbed = c .before .before .before in
     let head = climbed .before .before .before in
-    climbed .climb .kept .1 .0 ∙ head .loop .inv .1
+    climbed .settled .kept .1 .0 ∙ head .loop .inv .1
 
 returns : tie.Need-returns Inv-loop μ-loop
 unfolding checkedAs
@@ -43,7 +43,7 @@ returns c =
     let climbed = c .before .before .before in
     let turn = climbed .before .before in
     let head = turn .before in
-    (sym (head .loop .inv .3 ∙ rest-refuse _ _ _ _ _ (turn .loop-test .taken) (climb-refuse _ _ (climbed .climb .ensures .0) (not-true _ (c .if1 .taken)))), climbed .climb .ensures .1)
+    (sym (head .loop .inv .3 ∙ rest-refuse _ _ _ _ _ (turn .loop-test .taken) (climb-refuse _ _ (climbed .settled .ensures .0) (not-true _ (c .if1 .taken)))), climbed .settled .ensures .1)
 
 loop-less : tie.Need-loop-less Inv-loop μ-loop
 loop-less c = search needs
@@ -53,10 +53,10 @@ loop-again c =
     let climbed = c .before .before .before in
     let turn = climbed .before .before in
     let inv = turn .before .loop .inv in (
-      climbable (inv .0) (climbed .climb .kept .1 .0) (climbed .climb .ensures .1),
-      climbed .climb .kept .1 .0 ∙ inv .1,
+      climbable (inv .0) (climbed .settled .kept .1 .0) (climbed .settled .ensures .1),
+      climbed .settled .kept .1 .0 ∙ inv .1,
       omega arith,
-      inv .3 ∙ rest-next _ _ _ (turn .loop-test .taken) (climb-pass _ _ (climbed .climb .ensures .0) (not-false _ (c .if1 .left))),
+      inv .3 ∙ rest-next _ _ _ (turn .loop-test .taken) (climb-pass _ _ (climbed .settled .ensures .0) (not-false _ (c .if1 .left))),
     )
 
 same-length-2 : tie.Need-same-length-2 Inv-loop μ-loop
@@ -74,7 +74,7 @@ climb-all-spec =
     μ-loop
     loop-holds
     add-lowest
-    climb-requires
+    settled-requires
     same-length
     returns
     loop-less
