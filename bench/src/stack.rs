@@ -60,7 +60,7 @@ const CALLS: [Measured; 11] = [
 ];
 
 /// What include/birnsket.h says is enough.
-const PROMISED: usize = 128 << 10;
+const PROMISED: usize = 32 << 10;
 
 /// The largest depth of the call, and the input that took it, the first of several. What is
 /// lent beside the itinerary is named where it makes a difference.
