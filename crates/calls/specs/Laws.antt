@@ -5,9 +5,9 @@ use Rattle.std.proofs.Math.Path.{ap, refl, sym}
 use Rattle.model.specs.Analysis.{permit_all}
 use Rattle.model.specs.Calls.{checking, climb_answer, entry, exposed_answer, make_after, make_answer, making, outcome_check, run_after, run_answer, run_answers, running, screen_after, screen_answer, screen_answers, screening, sheet_after, sheet_answer, showing, step_after, step_answer, stepping, validate_answer, verdict_answer}
 use Rattle.model.specs.Climbing.{enclosure}
-use Rattle.model.specs.Laws.Bytes.{valid-few, valid-whole}
-use Rattle.model.specs.Laws.Checks.{answer-done, answer-refused, content-kept, content-new, done-answer, refuse-answer, then_next, then-refuse}
-use Rattle.model.specs.Laws.Done.{list-valid}
+use Rattle.model.proofs.Laws.Bytes.{valid-few, valid-whole}
+use Rattle.model.proofs.Laws.Checks.{answer-done, answer-refused, content-kept, content-new, done-answer, refuse-answer, then_next, then-refuse}
+use Rattle.model.proofs.Laws.Done.{list-valid}
 use Rattle.model.specs.Least.{least_table}
 use Rattle.model.specs.Numbers.{refusal, validated_as}
 use Rattle.model.specs.Observer.{sheet_of}

@@ -5,9 +5,9 @@ use Rattle.std.proofs.Math.Bool.{false, true, true≢false}
 use Rattle.std.proofs.Math.Path.{ap, refl, sym}
 use Rattle.std.proofs.Math.Decide.{ℕ_discrete}
 use Rattle.model.specs.Climbing.{ambients_only, view_from}
-use Rattle.model.specs.Laws.Bytes.{at-whole}
-use Rattle.model.specs.Laws.Containers.{ambient-and, not-ambient-and}
-use Rattle.model.specs.Laws.Updates.{at-root}
+use Rattle.model.proofs.Laws.Bytes.{at-whole}
+use Rattle.model.proofs.Laws.Containers.{ambient-and, not-ambient-and}
+use Rattle.model.proofs.Laws.Updates.{at-root}
 use Rattle.model.specs.Records.{decode, is_ambient, records}
 use Rattle.model.specs.declared.Rec.{Rec}
 use Rattle.records.specs.Climbs.{ambient-is, ambient-not, climb-lost, climb-on, climb-top}

@@ -12,11 +12,11 @@ use Rattle.std.proofs.Math.Decide.{dec_le, ℕ_discrete}
 use Rattle.ways.specs.Valid.{valid-passable}
 use Rattle.enclosures.specs.Notes.{Enclosing, Nearests, Notable, Noted, boundary_notes, enclosed_by, label_notes, up_to}
 use Rattle.model.specs.Climbing.{bounded, climb, enclosing, enclosure, is_bound, labelled, nearest, view}
-use Rattle.model.specs.Laws.Bytes.{at-whole, valid-few, valid-wf, valid-whole}
-use Rattle.model.specs.Laws.Containers.{labelled-amb, labelled-other, nearest-small}
-use Rattle.model.specs.Laws.Enclosure.{enclosed-label}
-use Rattle.model.specs.Laws.Views.{view-on, view-top}
-use Rattle.model.specs.Laws.Finite.{get_d_tabulate, length-tabulate}
+use Rattle.model.proofs.Laws.Bytes.{at-whole, valid-few, valid-wf, valid-whole}
+use Rattle.model.proofs.Laws.Containers.{labelled-amb, labelled-other, nearest-small}
+use Rattle.model.proofs.Laws.Enclosure.{enclosed-label}
+use Rattle.model.proofs.Laws.Views.{view-on, view-top}
+use Rattle.model.proofs.Laws.Finite.{get_d_tabulate, length-tabulate}
 use Rattle.model.specs.Records.{at, count, decode, is_ambient, parent_of, records}
 use Rattle.model.specs.Refusals.{pass}
 use Rattle.model.specs.Tables.{is_boundary}

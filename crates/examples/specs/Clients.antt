@@ -9,7 +9,7 @@ use Rattle.examples.specs.Tabled.{accepting, formed, judging, showing-alike, tab
 use Rattle.model.specs.Analysis.{permit_all, holds}
 use Rattle.model.specs.Calls.{check_answer}
 use Rattle.model.specs.Finite.{Each}
-use Rattle.model.specs.Laws.Secrecy.{every-client}
+use Rattle.model.proofs.Laws.Secrecy.{every-client}
 use Rattle.model.specs.Noninterference.{Client, Event, KeptFrom, Noninterference, ScreenedFor}
 use Rattle.model.specs.Observer.{sheet}
 use Rattle.model.specs.Records.{records}

@@ -11,15 +11,15 @@ use Rattle.model.specs.Analysis.{permit_all, holds, only_if, record_holds, rule_
 use Rattle.model.specs.Calls.{check_answer, checking, comparing, entry, make_after, make_answer, making, outcome_check, run_after, run_answers, running, screen_answer, screen_answers, screening, step_after, step_answer, stepping, validate_answer, verdict_answer}
 use Rattle.model.specs.Climbing.{ambient_and, hides, is_suspect, labelled, reaches, view, view_from}
 use Rattle.model.specs.Finite.{Each, one_if, every, lowest, some_of, tabulate, tally}
-use Rattle.model.specs.Laws.Bit.{zero_bit}
-use Rattle.model.specs.Laws.Bytes.{valid-wf}
-use Rattle.model.specs.Laws.Checks.{all_pass, answer-done}
-use Rattle.model.specs.Laws.Booleans.{and_left, and_right, beq-eq}
-use Rattle.model.specs.Laws.Finite.{every-use}
-use Rattle.model.specs.Laws.Holding.{Holds, holds-sound}
-use Rattle.model.specs.Laws.Least.{least-table-is}
-use Rattle.model.specs.Laws.Made.{made-accepted}
-use Rattle.model.specs.Laws.Sets.{bits-bytes, bytes-narrow, length-bytes}
+use Rattle.model.proofs.Laws.Bit.{zero_bit}
+use Rattle.model.proofs.Laws.Bytes.{valid-wf}
+use Rattle.model.proofs.Laws.Checks.{all_pass, answer-done}
+use Rattle.model.proofs.Laws.Booleans.{and_left, and_right, beq-eq}
+use Rattle.model.proofs.Laws.Finite.{every-use}
+use Rattle.model.proofs.Laws.Holding.{Holds, holds-sound}
+use Rattle.model.proofs.Laws.Least.{least-table-is}
+use Rattle.model.proofs.Laws.Made.{made-accepted}
+use Rattle.model.proofs.Laws.Sets.{bits-bytes, bytes-narrow, length-bytes}
 use Rattle.model.specs.Least.{bytes, least_table, numeral}
 use Rattle.model.specs.Listing.{content_of, digits_in, end_line, end_word, field, last_field, listing, refused_word, step_lines, verdict_word}
 use Rattle.model.specs.Noninterference.{after, after_event, all_steps, given, given_by, kept, steps_of}

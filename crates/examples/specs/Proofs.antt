@@ -9,7 +9,7 @@ use Rattle.examples.specs.Claims.{Meets, all_low, classes, examples, is_in, itin
 use Rattle.examples.specs.Listed.{Listed, all_below, computing, listed-makes, listed-screen, listed-suspects}
 use Rattle.model.specs.Calls.{screen_answers, validate_answer}
 use Rattle.model.specs.Finite.{Each, every}
-use Rattle.model.specs.Laws.Booleans.{and_left, and_right}
+use Rattle.model.proofs.Laws.Booleans.{and_left, and_right}
 use Rattle.model.specs.Listing.{hubscreen, listing, written}
 use Rattle.model.specs.Records.{is_ambient, nested}
 use Rattle.model.specs.Refusals.{refused}

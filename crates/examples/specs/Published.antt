@@ -7,9 +7,9 @@ use Rattle.examples.specs.Listed.{computing}
 use Rattle.model.specs.Analysis.{permit_all}
 use Rattle.model.specs.Calls.{step_after, step_answer}
 use Rattle.model.specs.Finite.{every, unequal}
-use Rattle.model.specs.Laws.Adequacy.{follows-rules}
-use Rattle.model.specs.Laws.Finite.{every-use}
-use Rattle.model.specs.Laws.WellFormed.{alive-in}
+use Rattle.model.proofs.Laws.Adequacy.{follows-rules}
+use Rattle.model.proofs.Laws.Finite.{every-use}
+use Rattle.model.proofs.Laws.WellFormed.{alive-in}
 use Rattle.model.specs.Noninterference.{Event, after, given, single}
 use Rattle.model.specs.Processes.{Chain, Congruent, Means, Process, Reads, Reduces, ◌·◌, ◌‖◌, ambient, both, cap, done_in, end, leaves, nothing, one, read, says-ambient, says-cap, times}
 use Rattle.model.specs.Records.{at, records}

@@ -8,11 +8,11 @@ use Rattle.examples.specs.Listed.{all_below, bits-listed}
 use Rattle.model.specs.Analysis.{permit_all, holds}
 use Rattle.model.specs.Calls.{check_answer, checking, verdict_answer}
 use Rattle.model.specs.Finite.{every}
-use Rattle.model.specs.Laws.Checks.{answer-done}
-use Rattle.model.specs.Laws.Booleans.{and-make}
-use Rattle.model.specs.Laws.Holding.{holds-sound}
-use Rattle.model.specs.Laws.Secrecy.{accept}
-use Rattle.model.specs.Laws.Sets.{length-bytes}
+use Rattle.model.proofs.Laws.Checks.{answer-done}
+use Rattle.model.proofs.Laws.Booleans.{and-make}
+use Rattle.model.proofs.Laws.Holding.{holds-sound}
+use Rattle.model.proofs.Laws.Secrecy.{accept}
+use Rattle.model.proofs.Laws.Sets.{length-bytes}
 use Rattle.model.specs.Least.{bytes}
 use Rattle.model.specs.Observer.{sheet, sheet_of}
 use Rattle.model.specs.Records.{encode, records}

@@ -7,7 +7,7 @@ use Rattle.examples.specs.Listed.{all_below, computing}
 use Rattle.examples.specs.Tabled.{accepting, formed, judging, showing-alike, table_of}
 use Rattle.model.specs.Analysis.{permit_all, holds}
 use Rattle.model.specs.Calls.{check_answer}
-use Rattle.model.specs.Laws.Secrecy.{noninterference}
+use Rattle.model.proofs.Laws.Secrecy.{noninterference}
 use Rattle.model.specs.Noninterference.{Event, Noninterference, all_steps, given, script, single}
 use Rattle.model.specs.Observer.{sheet}
 use Rattle.model.specs.Records.{records}

@@ -4,7 +4,7 @@ use mathlib.Core.List.{List, []}
 use Rattle.std.proofs.Common.{◌∙◌, sym, arith}
 use Rattle.std.proofs.Math.Path.{ap}
 use Rattle.model.specs.Calls.{make_after, make_answer, making}
-use Rattle.model.specs.Laws.Checks.{answer-done, answer-refused, then-pass}
+use Rattle.model.proofs.Laws.Checks.{answer-done, answer-refused, then-pass}
 use Rattle.model.specs.Numbers.{made_as, refusal}
 use Rattle.model.specs.Records.{records}
 use Rattle.model.specs.Refusals.{and_then, pass, refuse}

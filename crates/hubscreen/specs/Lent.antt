@@ -8,15 +8,15 @@ use Rattle.std.proofs.Math.Option.{Option}
 use Rattle.std.proofs.Math.Decide.{dec_le}
 use Rattle.listing.specs.Lines.{shown}
 use Rattle.model.specs.Calls.{entry, screen_answer, screen_answers, screening}
-use Rattle.model.specs.Laws.Checks.{need-pass, then-pass}
-use Rattle.model.specs.Laws.Booleans.{and_left, and_right}
+use Rattle.model.proofs.Laws.Checks.{need-pass, then-pass}
+use Rattle.model.proofs.Laws.Booleans.{and_left, and_right}
 use Rattle.model.specs.Listing.{content_of, hubscreen, listing, written}
 use Rattle.model.specs.Refusals.{Check, answer, content, pass, refuse, refused}
 use Rattle.model.specs.Scripts.{script_right}
 use Rattle.model.specs.Tables.{policy_right}
 use Rattle.model.specs.Validity.{size_right, validity}
-use Rattle.model.specs.Laws.Bytes.{valid-few}
-use Rattle.model.specs.Laws.Bytes.{valid-size}
+use Rattle.model.proofs.Laws.Bytes.{valid-few}
+use Rattle.model.proofs.Laws.Bytes.{valid-size}
 
 -- how many answers are lent for a script of which n bytes are there, by whether it has more
 unfoldable pub answers_for : Bool → ℕ → ℕ

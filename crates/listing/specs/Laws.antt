@@ -7,7 +7,7 @@ use Rattle.std.specs.Prelude.{get_or, List, [], ◌++◌, ◌∷◌, ◌≡◌, 
 use Rattle.std.proofs.Math.Seq.{drop-cons}
 use Rattle.std.proofs.Math.Path.{ap}
 use native.Mathlib.Omega.{arith}
-use Rattle.model.specs.Laws.Finite.{get_d_tabulate}
+use Rattle.model.proofs.Laws.Finite.{get_d_tabulate}
 use Rattle.model.specs.Listing.{end_line, end_word, field, last_field, listing, step_lines, verdict_word}
 use Rattle.model.specs.Records.{byte, word}
 use Rattle.model.specs.Refusals.{done}

@@ -5,7 +5,7 @@ use Rattle.std.proofs.Common.{length-append, ap, arith}
 use Rattle.std.proofs.Math.Option.{Option, none, some}
 use Rattle.model.specs.Analysis.{Permit, permit_all}
 use Rattle.model.specs.Calls.{screen_answer, screen_answers, screening}
-use Rattle.model.specs.Laws.Checks.{answer-done, need-pass, then-pass}
+use Rattle.model.proofs.Laws.Checks.{answer-done, need-pass, then-pass}
 use Rattle.model.specs.Listing.{end_word, listing, refused_word, step_lines}
 use Rattle.model.specs.Records.{records}
 use Rattle.model.specs.Refusals.{Answer, content, done, pass, refused}

@@ -18,4 +18,3 @@ pub mod Listing
 pub mod Noninterference
 pub mod Processes
 pub mod Requests
-pub mod Laws

@@ -51,6 +51,10 @@ name_by false n = eqb n 0
 unfoldable pub name_right : Rec → Bool
 name_right r = name_by (nested r) r.name
 
+-- kind, label and name fit together
+unfoldable pub shape : Rec → Bool
+shape r = kind_right r && (label_right r && name_right r)
+
 -- "A parent is 0 or a record whose kind is not 0." 5: "parent over the record count, or a record of kind 0"
 unfoldable pub parent_right : List ℕ → ℕ → Bool
 parent_right s zero = true

@@ -7,9 +7,9 @@ use Rattle.std.proofs.Math.Bool.{false, true}
 use Rattle.std.proofs.Math.Path.{ap, refl, sym}
 use Rattle.std.proofs.Math.Decide.{ℕ_discrete}
 use Rattle.model.specs.Climbing.{climb, hidden, is_suspect}
-use Rattle.model.specs.Laws.Bytes.{valid-few, valid-wf}
-use Rattle.model.specs.Laws.Containers.{hidden-root, hidden-suspect, hidden-up}
-use Rattle.model.specs.Laws.Finite.{replicated}
+use Rattle.model.proofs.Laws.Bytes.{valid-few, valid-wf}
+use Rattle.model.proofs.Laws.Containers.{hidden-root, hidden-suspect, hidden-up}
+use Rattle.model.proofs.Laws.Finite.{replicated}
 use Rattle.model.specs.Observer.{on_sheet}
 use Rattle.model.specs.Records.{count, decode, gone, parent_of, records}
 use Rattle.model.specs.Refusals.{pass}

@@ -8,7 +8,7 @@ use Rattle.std.proofs.Math.Bool.{false, true}
 use Rattle.std.proofs.Common.{◌∙◌, ap₂, arith}
 use Rattle.std.proofs.Math.Path.{ap, refl, sym}
 use Rattle.packing.specs.Packing.{part_result, row_result}
-use Rattle.model.specs.Laws.Booleans.{and_left, and_right}
+use Rattle.model.proofs.Laws.Booleans.{and_left, and_right}
 use Rattle.model.specs.Tables.{table_sized}
 use Rattle.model.specs.Calls.{part_if, row_of, row_start, start_if}
 

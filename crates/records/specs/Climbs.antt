@@ -2,8 +2,8 @@
 use Rattle.std.specs.Prelude.{◌%◌, ◌+◌, ◌-◌, ◌/◌, suc, ℕ, length, replicate, false, true, List, ◌≢◌, ◌≡◌}
 use Rattle.std.proofs.Common.{eq-eqb, ne_eqb, ◌∙◌, ap, sym, arith}
 use Rattle.model.specs.Climbing.{View, view, view_from}
-use Rattle.model.specs.Laws.Bytes.{at-whole, length-records}
-use Rattle.model.specs.Laws.Views.{from-lost, from_on, from-top}
+use Rattle.model.proofs.Laws.Bytes.{at-whole, length-records}
+use Rattle.model.proofs.Laws.Views.{from-lost, from_on, from-top}
 use Rattle.model.specs.Records.{at, count, decode, is_ambient, records}
 use Rattle.model.specs.declared.Rec.{Rec}
 

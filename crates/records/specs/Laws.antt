@@ -1,7 +1,7 @@
 -- A record's bytes, read directly.
 use Rattle.std.specs.Prelude.{◌*◌, ◌+◌, ◌-◌, suc, zero, ℕ, List, ◌≢◌, ◌≡◌, refl}
 use Rattle.std.proofs.Common.{◌∙◌, ap, ap₂, sym, arith}
-use Rattle.model.specs.Laws.Bytes.{rec-path}
+use Rattle.model.proofs.Laws.Bytes.{rec-path}
 use Rattle.model.specs.Records.{byte, byte_of, decode, word}
 
 pub byte-of : (s : List ℕ) (i k : ℕ) → i ≢ 0 → byte_of s i k ≡ byte s (8 * (i - 1) + k)

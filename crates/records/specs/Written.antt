@@ -8,8 +8,8 @@ use Rattle.std.proofs.lemmas.List.Edits.{sets-eq}
 use mathlib.Core.List.{List, [], ◌++◌, ◌∷◌, append_assoc, append-nil}
 use Rattle.std.proofs.Math.Path.{ap, sym}
 use native.Mathlib.Omega.{arith}
-use Rattle.model.specs.Laws.Bytes.{back, byte_in, byte-encode, valid-passed, at-decode, length-encode, length-records, rec-path}
-use Rattle.model.specs.Laws.Updates.{at-update, length-update}
+use Rattle.model.proofs.Laws.Bytes.{back, byte_in, byte-encode, valid-passed, at-decode, length-encode, length-records, rec-path}
+use Rattle.model.proofs.Laws.Updates.{at-update, length-update}
 use Rattle.model.specs.Records.{at, byte, byte_of, count, decode, encode, gone, records, update}
 use Rattle.model.specs.Refusals.{pass}
 use Rattle.model.specs.Validity.{validity}

@@ -7,7 +7,7 @@ use mathlib.Core.List.{List, [], ◌++◌, ◌∷◌}
 use Rattle.std.proofs.Math.Path.{ap, ap₂, refl, sym}
 use Rattle.std.proofs.Math.Decide.{dec_le}
 use native.Mathlib.Omega.{arith}
-use Rattle.model.specs.Laws.Booleans.{and_left, and_right}
+use Rattle.model.proofs.Laws.Booleans.{and_left, and_right}
 use Rattle.replay_compare.specs.Comparing.{counting, more, over, same_bytes}
 use Rattle.replay_compare.specs.declared.Tally.{Tally}
 

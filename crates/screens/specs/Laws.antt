@@ -4,9 +4,9 @@ use Rattle.std.proofs.Common.{◌∙◌}
 use Rattle.std.proofs.Math.Path.{ap}
 use Rattle.model.specs.Analysis.{permit_all}
 use Rattle.model.specs.Calls.{screen_after, screen_answer, screen_answers, screening}
-use Rattle.model.specs.Laws.Bytes.{valid-few, valid-whole}
-use Rattle.model.specs.Laws.Checks.{content-new, done-answer}
-use Rattle.model.specs.Laws.Done.{list-valid}
+use Rattle.model.proofs.Laws.Bytes.{valid-few, valid-whole}
+use Rattle.model.proofs.Laws.Checks.{content-new, done-answer}
+use Rattle.model.proofs.Laws.Done.{list-valid}
 use Rattle.model.specs.Least.{least_table}
 use Rattle.model.specs.Records.{records}
 use Rattle.model.specs.Refusals.{done, pass}

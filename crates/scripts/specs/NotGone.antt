@@ -2,7 +2,7 @@
 use Rattle.std.specs.Prelude.{◌%◌, ◌+◌, ◌/◌, suc, ℕ, length, List, ◌≡◌, refl}
 use Rattle.std.proofs.Common.{◌∙◌, ap, sym, add-one, arith}
 use Rattle.model.specs.Finite.{one_if, tally, unequal}
-use Rattle.model.specs.Laws.Bytes.{at-whole, length-records}
+use Rattle.model.proofs.Laws.Bytes.{at-whole, length-records}
 use Rattle.model.specs.Records.{at, byte_of, count, decode, records}
 use Rattle.model.specs.Scripts.{not_gone}
 

@@ -5,10 +5,10 @@ use Rattle.std.proofs.lemmas.List.{set_at}
 use Rattle.std.proofs.Math.Path.{ap, sym}
 use native.Mathlib.Omega.{arith}
 use Rattle.model.specs.Analysis.{permit_all}
-use Rattle.model.specs.Laws.Done.{list-valid}
-use Rattle.model.specs.Laws.Finite.{get_d_tabulate, length-tabulate}
-use Rattle.model.specs.Laws.Lists.{answers-append, list-append}
-use Rattle.model.specs.Laws.Booleans.{and_left, and_right}
+use Rattle.model.proofs.Laws.Done.{list-valid}
+use Rattle.model.proofs.Laws.Finite.{get_d_tabulate, length-tabulate}
+use Rattle.model.proofs.Laws.Lists.{answers-append, list-append}
+use Rattle.model.proofs.Laws.Booleans.{and_left, and_right}
 use Rattle.model.specs.Records.{byte, records, word}
 use Rattle.model.specs.Refusals.{pass}
 use Rattle.model.specs.Scripts.{Step, after_list, answers_of, counts_of, done_by, how_many, kind_of, step_in, steps_in, outcomes, script_right}

@@ -9,10 +9,10 @@ use Rattle.std.proofs.Math.Path.{ap, refl, sym}
 use Rattle.std.proofs.Math.Decide.{ℕ_discrete}
 use Rattle.model.specs.Analysis.{permit_all}
 use Rattle.model.specs.Climbing.{ambients}
-use Rattle.model.specs.Laws.Updates.{dissolved-moved, dissolved-self, dissolved-stays, placed-other}
-use Rattle.model.specs.Laws.Bytes.{at-whole, valid-wf, valid-whole}
-use Rattle.model.specs.Laws.Done.{Done, cap-pos, done-other, in-live, open-beside, out-live, outcome-done, partner-pos}
-use Rattle.model.specs.Laws.WellFormed.{WellFormed, dissolve-parent-stays, parent-not-self, place-parent-other}
+use Rattle.model.proofs.Laws.Updates.{dissolved-moved, dissolved-self, dissolved-stays, placed-other}
+use Rattle.model.proofs.Laws.Bytes.{at-whole, valid-wf, valid-whole}
+use Rattle.model.proofs.Laws.Done.{Done, cap-pos, done-other, in-live, open-beside, out-live, outcome-done, partner-pos}
+use Rattle.model.proofs.Laws.WellFormed.{WellFormed, dissolve-parent-stays, parent-not-self, place-parent-other}
 use Rattle.model.specs.Records.{at, capability, decode, encode, is_ambient, parent_of, records, update, update_from}
 use Rattle.model.specs.Refusals.{pass}
 use Rattle.model.specs.Steps.{decide, dissolve, dissolved, fit, move, outcome, outcome_by, place, placed, ready, rewritten, stands, step_bytes, to}

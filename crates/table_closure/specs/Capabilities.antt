@@ -3,8 +3,8 @@ use Rattle.std.specs.Prelude.{◌*◌, ◌+◌, ◌<◌, ◌≤◌, suc, zero, �
 use Rattle.std.specs.Int.Count.{ones}
 use Rattle.std.proofs.lemmas.Nat.{ones-le}
 use Rattle.std.proofs.Common.{⊎_elim, ◌∙◌, ap, sym, eq-or-lt_of_le, le_of_suc-le-suc, le_refl, not-suc-le-zero, add-one, arith}
-use Rattle.model.specs.Laws.Bit.{Fewer, fewer}
-use Rattle.model.specs.Laws.Sets.{Narrow}
+use Rattle.model.proofs.Laws.Bit.{Fewer, fewer}
+use Rattle.model.proofs.Laws.Sets.{Narrow}
 use Rattle.model.specs.Tables.{bit_at}
 use Rattle.tables.specs.Grow.{Inside}
 use Rattle.table_words.specs.Sums.{words_inside}

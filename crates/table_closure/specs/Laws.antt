@@ -9,8 +9,8 @@ use Rattle.std.proofs.Math.Path.{ap, fun_ext, subst}
 use native.Mathlib.Omega.{arith}
 use Rattle.table_rows.specs.Changes.{RowsChanged, changed-none, changed_then}
 use Rattle.table_movers.specs.Rules.{NestingClosed, RowClosed, pair_same}
-use Rattle.model.specs.Laws.Bit.{or-bit, zero_bit}
-use Rattle.model.specs.Laws.Booleans.{is_false, never, or_cases}
+use Rattle.model.proofs.Laws.Bit.{or-bit, zero_bit}
+use Rattle.model.proofs.Laws.Booleans.{is_false, never, or_cases}
 use Rattle.model.specs.Tables.{bit_at, test_bit}
 use Rattle.tables.specs.Grow.{Grown, Set, Smallest, Any, chain, grown-none}
 use Rattle.table_words.specs.BitSets.{Bits, all-bits, and_in, last_or, one_bit, or_some}

@@ -2,7 +2,7 @@
 use Rattle.std.specs.Prelude.{◌%◌, ◌*◌, ◌+◌, ◌/◌, ◌<◌, ◌≤◌, ℕ, get_or, List, ◌≡◌}
 use Rattle.std.proofs.Common.{◌∙◌, ap, sym, arith}
 use Rattle.table_movers.specs.Rules.{NestingClosed, RowClosed, SuspectsClosed, closed-rows, closed-suspects, movers-closed, pair_same}
-use Rattle.model.specs.Laws.Sets.{Narrow}
+use Rattle.model.proofs.Laws.Sets.{Narrow}
 use Rattle.model.specs.Tables.{bit_at, test_bit}
 use Rattle.tables.specs.Grow.{Grown, Inside, Set, Smallest, Any}
 use Rattle.table_words.specs.BitSets.{Bits, at-word}

@@ -6,14 +6,14 @@ use Rattle.table_holds.specs.Tests.{nesting_holds, stood}
 use Rattle.model.specs.Analysis.{permit_all, holds, only_if}
 use Rattle.model.specs.Climbing.{container, nesting, view}
 use Rattle.model.specs.Finite.{every}
-use Rattle.model.specs.Laws.Booleans.{and_left, and-make, and_right, bool_iff, is_false, only_if-make, only_if-use}
-use Rattle.model.specs.Laws.Finite.{every-make, every-use}
-use Rattle.model.specs.Laws.Holding.{holds-complete, holds-sound}
-use Rattle.model.specs.Laws.WellFormed.{amb-nested, label_small, shape, shape-label, shape-named}
+use Rattle.model.proofs.Laws.Booleans.{and_left, and-make, and_right, bool_iff, is_false, only_if-make, only_if-use}
+use Rattle.model.proofs.Laws.Finite.{every-make, every-use}
+use Rattle.model.proofs.Laws.Holding.{holds-complete, holds-sound}
+use Rattle.model.proofs.Laws.WellFormed.{amb-nested, label_small, shape-label, shape-named}
+use Rattle.model.specs.Validity.{name_by, name_right, shape, validity}
 use Rattle.model.specs.Records.{at, count, decode, is_ambient, records}
 use Rattle.model.specs.Refusals.{pass}
 use Rattle.model.specs.Tables.{Table, is_high, parts, place_h}
-use Rattle.model.specs.Validity.{name_by, name_right, validity}
 use Rattle.model.specs.declared.Rec.{Rec}
 use Rattle.table_partners.specs.Facts.{Facts, Wanted, bearing, name_cell, nesting_cell, standing}
 use Rattle.table_partners.specs.Standing.{contained, facts-holds, holds-facts, holds-rules, read_at}

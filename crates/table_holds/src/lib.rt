@@ -2,11 +2,10 @@
 ghost use Rattle.std.specs.Prelude.{◌≡◌, true, ◌<◌, length};
 ghost use Rattle.model.specs.Analysis.{permit_all, holds};
 ghost use Rattle.model.specs.Finite.{every};
-ghost use Rattle.model.specs.Laws.WellFormed.{shape};
+ghost use Rattle.model.specs.Validity.{shape, validity};
 ghost use Rattle.model.specs.Records.{records};
 ghost use Rattle.model.specs.Refusals.{pass};
 ghost use Rattle.model.specs.Tables.{bits, is_high, parts, suspects};
-ghost use Rattle.model.specs.Validity.{validity};
 ghost use Rattle.table_holds.specs.Tests.{nesting_holds, stood};
 ghost use Rattle.enclosures.specs.Notes.{Nearests};
 

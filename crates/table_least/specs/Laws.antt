@@ -6,12 +6,12 @@ use Rattle.std.proofs.Common.{◌∙◌, subst, subst₂, sym, arith}
 use Rattle.table_least.specs.Least.{LeastClosed}
 use Rattle.table_seed.specs.Seeds.{Seeded}
 use Rattle.model.specs.Analysis.{permit_all}
-use Rattle.model.specs.Laws.Bytes.{length-records, valid-wf}
-use Rattle.model.specs.Laws.Booleans.{or_right}
-use Rattle.model.specs.Laws.Done.{cap-alive}
-use Rattle.model.specs.Laws.Least.{least-table-is}
-use Rattle.model.specs.Laws.Sets.{Narrow}
-use Rattle.model.specs.Laws.WellFormed.{WellFormed, alive-in}
+use Rattle.model.proofs.Laws.Bytes.{length-records, valid-wf}
+use Rattle.model.proofs.Laws.Booleans.{or_right}
+use Rattle.model.proofs.Laws.Done.{cap-alive}
+use Rattle.model.proofs.Laws.Least.{least-table-is}
+use Rattle.model.proofs.Laws.Sets.{Narrow}
+use Rattle.model.proofs.Laws.WellFormed.{WellFormed, alive-in}
 use Rattle.model.specs.Least.{least_table}
 use Rattle.model.specs.Records.{count, records}
 use Rattle.model.specs.Refusals.{pass}

@@ -2,8 +2,8 @@
 -- stand that targets a name of b. Kinds are 0 in, 1 out, 2 open.
 use Rattle.std.specs.Prelude.{◌%◌, ◌*◌, ◌+◌, ◌-◌, ◌/◌, ◌<◌, ℕ, get_or, true, List, ◌≡◌}
 use Rattle.std.proofs.Common.{true≢false, ◌∙◌, ap, sym}
-use Rattle.model.specs.Laws.Bit.{zero_bit}
-use Rattle.model.specs.Laws.Booleans.{bool_iff}
+use Rattle.model.proofs.Laws.Bit.{zero_bit}
+use Rattle.model.proofs.Laws.Booleans.{bool_iff}
 use Rattle.model.specs.Tables.{test_bit}
 use Rattle.tables.specs.Grow.{Inside, Set}
 use Rattle.table_words.specs.Layout.{I}

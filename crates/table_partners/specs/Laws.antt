@@ -6,18 +6,18 @@ use Rattle.std.proofs.Math.Option.{some}
 use Rattle.std.proofs.Math.Path.{refl}
 use Rattle.std.proofs.Math.Decide.{dec_le, ℕ_discrete}
 use native.Mathlib.Omega.{arith}
-use Rattle.model.specs.Laws.Done.{kind-of}
+use Rattle.model.proofs.Laws.Done.{kind-of}
 use Rattle.model.specs.Scripts.{kind_of}
-use Rattle.model.specs.Laws.Bit.{zero_bit}
-use Rattle.model.specs.Laws.Bytes.{at-decode, valid-wf}
-use Rattle.model.specs.Laws.Booleans.{and_left, and-make, and_right, bool_iff, never}
-use Rattle.model.specs.Laws.Sets.{Narrow}
-use Rattle.model.specs.Laws.Updates.{at-over, at-root}
-use Rattle.model.specs.Laws.WellFormed.{WellFormed, shape, shape-label, shape-named}
+use Rattle.model.proofs.Laws.Bit.{zero_bit}
+use Rattle.model.proofs.Laws.Bytes.{at-decode, valid-wf}
+use Rattle.model.proofs.Laws.Booleans.{and_left, and-make, and_right, bool_iff, never}
+use Rattle.model.proofs.Laws.Sets.{Narrow}
+use Rattle.model.proofs.Laws.Updates.{at-over, at-root}
+use Rattle.model.proofs.Laws.WellFormed.{WellFormed, shape-label, shape-named}
+use Rattle.model.specs.Validity.{label_in, name_by, name_right, shape, validity}
 use Rattle.model.specs.Records.{at, capability, count, decode, is_ambient, nested}
 use Rattle.model.specs.Refusals.{pass}
 use Rattle.model.specs.Tables.{parts, place_h, place_i, place_s, test_bit}
-use Rattle.model.specs.Validity.{label_in, name_by, name_right, validity}
 use Rattle.model.specs.declared.Rec.{Rec}
 use Rattle.table_partners.specs.Partners.{Partners, PartnersAdded, TargetedBy, Targets, borne, in_h, is_capability, slot}
 use Rattle.table_partners.specs.Rules.{RuleOf, RulesClosed}

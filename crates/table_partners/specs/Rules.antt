@@ -2,7 +2,7 @@
 use Rattle.std.specs.Prelude.{◌+◌, ◌<◌, ℕ, get_or, true, List, ◌≡◌}
 use Rattle.std.proofs.Math.Option.{some}
 use Rattle.model.specs.Analysis.{permit_all}
-use Rattle.model.specs.Laws.Holding.{Rule}
+use Rattle.model.proofs.Laws.Holding.{Rule}
 use Rattle.model.specs.Records.{at, capability}
 use Rattle.model.specs.Tables.{parts, test_bit}
 use Rattle.model.specs.declared.Capability.{Capability}

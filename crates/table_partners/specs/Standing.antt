@@ -7,10 +7,10 @@ use Rattle.std.proofs.Common.{◌∙◌, sym, arith}
 use Rattle.std.proofs.Math.Path.{ap, ap₂, subst}
 use Rattle.model.specs.Analysis.{permit_all}
 use Rattle.model.specs.Climbing.{container, nesting, view}
-use Rattle.model.specs.Laws.Bytes.{at-decode, valid-wf}
-use Rattle.model.specs.Laws.Containers.{container-small}
-use Rattle.model.specs.Laws.Holding.{Holds}
-use Rattle.model.specs.Laws.WellFormed.{WellFormed, alive-in, alive-pos, amb-nested, labels, named, nested-alive, small}
+use Rattle.model.proofs.Laws.Bytes.{at-decode, valid-wf}
+use Rattle.model.proofs.Laws.Containers.{container-small}
+use Rattle.model.proofs.Laws.Holding.{Holds}
+use Rattle.model.proofs.Laws.WellFormed.{WellFormed, alive-in, alive-pos, amb-nested, labels, named, nested-alive, small}
 use Rattle.model.specs.Records.{at, count, decode, is_ambient, nested, records}
 use Rattle.model.specs.Refusals.{pass}
 use Rattle.model.specs.Tables.{parts, place_h, place_i}

@@ -1,9 +1,8 @@
 // The partners of an itinerary's capabilities, folded into 192 words: 64 labels to each of three kinds. A table is 193 words.
 ghost use Rattle.std.specs.Prelude.{◌≡◌, ℕ, length, get_or, true};
-ghost use Rattle.model.specs.Laws.WellFormed.{shape};
+ghost use Rattle.model.specs.Validity.{shape, validity};
 ghost use Rattle.model.specs.Records.{count, records};
 ghost use Rattle.model.specs.Refusals.{pass};
-ghost use Rattle.model.specs.Validity.{validity};
 ghost use Rattle.table_partners.specs.Partners.{Partners, PartnersAdded, borne, in_h, is_capability};
 
 use model::Rec;

@@ -4,9 +4,9 @@ use Rattle.std.proofs.Common.{eq-eqb, eqb-true, length-set, get_or-set_other, ge
 use Rattle.std.specs.Int.Bits.{bit_or}
 use Rattle.std.proofs.lemmas.Nat.{or_lt}
 use Rattle.std.proofs.Math.Decide.{dec_lt, ℕ_discrete}
-use Rattle.model.specs.Laws.Bit.{or-bit, zero_bit}
-use Rattle.model.specs.Laws.Booleans.{is_false, never, or_cases, or_left, or_right}
-use Rattle.model.specs.Laws.Sets.{Narrow}
+use Rattle.model.proofs.Laws.Bit.{or-bit, zero_bit}
+use Rattle.model.proofs.Laws.Booleans.{is_false, never, or_cases, or_left, or_right}
+use Rattle.model.proofs.Laws.Sets.{Narrow}
 use Rattle.model.specs.Tables.{test_bit, total}
 use Rattle.tables.specs.Grow.{Grown, grown-none}
 use Rattle.table_words.specs.BitSets.{Bits, WordHas, at-word, one_bit, or_word, or_at, word-make}

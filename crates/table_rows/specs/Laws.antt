@@ -4,7 +4,7 @@ use Rattle.std.specs.Int.Bits.{bit_and}
 use Rattle.std.proofs.Common.{inl, inr, ⊎_elim, ◌∙◌, ap, sym, arith}
 use Rattle.std.proofs.Math.Decide.{dec_lt}
 use Rattle.table_movers.specs.Rules.{InOutClosed, PairClosed, RowClosed}
-use Rattle.model.specs.Laws.Booleans.{never}
+use Rattle.model.proofs.Laws.Booleans.{never}
 use Rattle.model.specs.Tables.{test_bit}
 use Rattle.tables.specs.Grow.{Grown, Inside, Set, chain, recast}
 use Rattle.table_words.specs.BitSets.{Bits, WordHas, and_in, and_l, and_r, word-make, word-use}

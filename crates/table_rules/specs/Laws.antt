@@ -11,13 +11,13 @@ use Rattle.table_movers.specs.Rules.{NestingClosed, RowClosed, SuspectsClosed, c
 use Rattle.table_rules.specs.Tests.{Decides, InOutHeld, OpenHeld, PairHeld, RowHeld, Within, open_holds}
 use Rattle.model.specs.Analysis.{holds, only_if}
 use Rattle.model.specs.Finite.{every}
-use Rattle.model.specs.Laws.Bit.{or-bit, or_same, same_or, zero_bit}
-use Rattle.model.specs.Laws.Bytes.{length-records, valid-wf}
-use Rattle.model.specs.Laws.Booleans.{and_left, and-make, and_right, bool_iff, only_if-make, only_if-use, or_cases}
-use Rattle.model.specs.Laws.Done.{cap-alive}
-use Rattle.model.specs.Laws.Finite.{every-make, every-use}
-use Rattle.model.specs.Laws.Sets.{Narrow}
-use Rattle.model.specs.Laws.WellFormed.{WellFormed, alive-in}
+use Rattle.model.proofs.Laws.Bit.{or-bit, or_same, same_or, zero_bit}
+use Rattle.model.proofs.Laws.Bytes.{length-records, valid-wf}
+use Rattle.model.proofs.Laws.Booleans.{and_left, and-make, and_right, bool_iff, only_if-make, only_if-use, or_cases}
+use Rattle.model.proofs.Laws.Done.{cap-alive}
+use Rattle.model.proofs.Laws.Finite.{every-make, every-use}
+use Rattle.model.proofs.Laws.Sets.{Narrow}
+use Rattle.model.proofs.Laws.WellFormed.{WellFormed, alive-in}
 use Rattle.model.specs.Records.{count, records}
 use Rattle.model.specs.Refusals.{pass}
 use Rattle.model.specs.Tables.{Table, bit_at, bits, parts, place_i, place_s, test_bit}

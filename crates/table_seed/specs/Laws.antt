@@ -10,9 +10,9 @@ use Rattle.std.proofs.Math.Decide.{dec_lt}
 use Rattle.std.proofs.Math.Nat.{min-le_left}
 use native.Mathlib.Omega.{arith}
 use Rattle.table_seed.specs.Seeds.{CellsSet, Seeded}
-use Rattle.model.specs.Laws.Bit.{pow-bit, zero_bit}
-use Rattle.model.specs.Laws.Bytes.{length-records, valid-wf}
-use Rattle.model.specs.Laws.WellFormed.{WellFormed, named, small}
+use Rattle.model.proofs.Laws.Bit.{pow-bit, zero_bit}
+use Rattle.model.proofs.Laws.Bytes.{length-records, valid-wf}
+use Rattle.model.proofs.Laws.WellFormed.{WellFormed, named, small}
 use Rattle.model.specs.Records.{count, records}
 use Rattle.model.specs.Refusals.{pass}
 use Rattle.model.specs.Tables.{bit_at, bits, is_high, place_s, test_bit}

@@ -7,8 +7,8 @@ use Rattle.std.proofs.Math.Bool.{false, true}
 use Rattle.std.proofs.Math.Logic.{inl, inr}
 use Rattle.std.proofs.Math.Path.{ap}
 use Rattle.std.proofs.Math.Decide.{ℕ_discrete}
-use Rattle.model.specs.Laws.Bit.{or-bit, zero_bit}
-use Rattle.model.specs.Laws.Booleans.{is_false, never, or_cases}
+use Rattle.model.proofs.Laws.Bit.{or-bit, zero_bit}
+use Rattle.model.proofs.Laws.Booleans.{is_false, never, or_cases}
 use Rattle.model.specs.Tables.{bit_at, test_bit}
 use Rattle.tables.specs.Grow.{Inside, Set, Smallest}
 use Rattle.table_words.specs.BitSets.{Bits, all-bits, and_in, and_l, and_r, last_or, one_bit, or_some}

@@ -2,8 +2,8 @@
 use Rattle.std.specs.Prelude.{◌-◌, ◌<◌, ℕ, get_or, length, ◌||◌, true, List, ◌⊎◌, ◌≡◌}
 use Rattle.std.proofs.Common.{get_or-set_other, get_or-set_same, inl, inr, ⊎_elim, ◌∙◌, ap, sym}
 use Rattle.std.proofs.Math.Decide.{ℕ_discrete}
-use Rattle.model.specs.Laws.Bit.{or-bit}
-use Rattle.model.specs.Laws.Booleans.{bool_iff, or_cases, or_left, or_right}
+use Rattle.model.proofs.Laws.Bit.{or-bit}
+use Rattle.model.proofs.Laws.Booleans.{bool_iff, or_cases, or_left, or_right}
 use Rattle.model.specs.Tables.{test_bit}
 use Rattle.table_words.specs.BitSets.{or_at}
 

@@ -3,12 +3,12 @@ use Rattle.std.specs.Prelude.{◌%◌, ◌*◌, ◌+◌, ◌-◌, ◌/◌, ◌<�
 use Rattle.std.specs.Int.Bits.{bit_and, bit_or}
 use Rattle.std.proofs.Common.{get_or-set_other, get_or-set_same, ⊎_elim, ◌∙◌, ap, ap₂, subst, sym, eq-or-lt_of_le, le_of_suc-le-suc, add-one, arith}
 use Rattle.std.proofs.Math.Decide.{dec_lt, ℕ_discrete}
-use Rattle.model.specs.Laws.Bit.{and-bit, high_bit, one_shl, or-bit, pow-bit}
-use Rattle.model.specs.Laws.Booleans.{and_left, and-make, and_right, never, or_cases, or_left, or_right}
+use Rattle.model.proofs.Laws.Bit.{and-bit, high_bit, one_shl, or-bit, pow-bit}
+use Rattle.model.proofs.Laws.Booleans.{and_left, and-make, and_right, never, or_cases, or_left, or_right}
 use Rattle.model.specs.Tables.{bit_at, test_bit}
 use Rattle.tables.specs.Grow.{Grown, Inside, Set}
 use Rattle.model.specs.Finite.{every}
-use Rattle.model.specs.Laws.Finite.{every-use}
+use Rattle.model.proofs.Laws.Finite.{every-use}
 
 -- a word has no bits past its own
 pub below_64 : (x k : ℕ) → x < 2 ^ 64 → test_bit x k ≡ true → k < 64

@@ -6,8 +6,8 @@ use Rattle.std.specs.Int.Bits.{bit_and, bit_xor, xor_add_and, xor_zero_r}
 use Rattle.std.proofs.lemmas.Nat.{xor_mod, xor_shr}
 use Rattle.std.specs.Int.Count.{count_trailing_zeros, under}
 use Rattle.std.proofs.Math.Decide.{dec_lt}
-use Rattle.model.specs.Laws.Bit.{and-bit, half-bit, high_bit, lowest-bit, pow-bit}
-use Rattle.model.specs.Laws.Booleans.{and-make}
+use Rattle.model.proofs.Laws.Bit.{and-bit, half-bit, high_bit, lowest-bit, pow-bit}
+use Rattle.model.proofs.Laws.Booleans.{and-make}
 use Rattle.model.specs.Tables.{test_bit}
 
 -- k is the lowest of the n bits of x that is one, and x - 1 has the others that are

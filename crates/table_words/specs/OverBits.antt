@@ -3,8 +3,8 @@ use Rattle.std.specs.Prelude.{◌-◌, ◌<◌, ℕ, true, ◌≡◌}
 use Rattle.std.specs.Int.Bits.{bit_and}
 use Rattle.std.proofs.Common.{◌∙◌, ap, subst, sym}
 use Rattle.std.proofs.Math.Decide.{ℕ_discrete}
-use Rattle.model.specs.Laws.Bit.{zero_bit}
-use Rattle.model.specs.Laws.Booleans.{never}
+use Rattle.model.proofs.Laws.Bit.{zero_bit}
+use Rattle.model.proofs.Laws.Booleans.{never}
 use Rattle.model.specs.Tables.{test_bit}
 use Rattle.tables.specs.Grow.{Grown, Set, chain, grown-none, recast}
 use Rattle.table_words.specs.BitSets.{and_in, and_l}

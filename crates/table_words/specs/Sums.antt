@@ -7,8 +7,8 @@ use Rattle.std.proofs.lemmas.Nat.{ones-le}
 use Rattle.std.proofs.Math.Seq.{drop-length}
 use Rattle.std.proofs.Math.Decide.{dec_lt}
 use Rattle.std.proofs.Math.Nat.{suc_inj}
-use Rattle.model.specs.Laws.Bit.{Fewer, fewer, high_bit}
-use Rattle.model.specs.Laws.Sets.{Narrow}
+use Rattle.model.proofs.Laws.Bit.{Fewer, fewer, high_bit}
+use Rattle.model.proofs.Laws.Sets.{Narrow}
 use Rattle.model.specs.Tables.{bit_at, test_bit, total}
 use Rattle.tables.specs.Grow.{Inside}
 

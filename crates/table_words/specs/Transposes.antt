@@ -3,7 +3,7 @@ use Rattle.std.specs.Prelude.{◌%◌, ◌*◌, ◌+◌, ◌-◌, ◌<◌, ◌^�
 use Rattle.std.proofs.Common.{eq-eqb, eqb-true, true≢false, inl, inr, ⊎_elim, ◌∙◌, ap, ap₂, subst, sym, zero-add, arith}
 use Rattle.std.specs.Int.Bits.{bit_and}
 use Rattle.std.proofs.Math.Decide.{ℕ_discrete}
-use Rattle.model.specs.Laws.Bit.{zero_bit}
+use Rattle.model.proofs.Laws.Bit.{zero_bit}
 use Rattle.model.specs.Tables.{test_bit}
 use Rattle.table_words.specs.BitSets.{and_in, one_bit}
 use Rattle.table_words.specs.Lowest.{Lowest}

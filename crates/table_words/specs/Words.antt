@@ -10,8 +10,8 @@ use Rattle.std.proofs.Math.Path.{ap, fun_ext, sym}
 use Rattle.std.proofs.Math.Decide.{dec_lt}
 use Rattle.std.proofs.Math.Nat.{min-le_left, mul-mod_left}
 use native.Mathlib.Omega.{arith}
-use Rattle.model.specs.Laws.Bit.{half-bit, lowest-bit, or-bit, shr-bit, zero_bit}
-use Rattle.model.specs.Laws.Sets.{Narrow}
+use Rattle.model.proofs.Laws.Bit.{half-bit, lowest-bit, or-bit, shr-bit, zero_bit}
+use Rattle.model.proofs.Laws.Sets.{Narrow}
 use Rattle.model.specs.Tables.{bit_at, test_bit}
 
 unfoldable pub value : List ℕ → ℕ

@@ -2,7 +2,7 @@
 use Rattle.std.specs.Prelude.{◌+◌, ◌<◌, ℕ, Bool, true, ◌≡◌}
 use Rattle.std.proofs.Common.{⊎_elim, subst, sym, eq-or-lt_of_le, le_of_suc-le-suc, add-one}
 use Rattle.std.proofs.Math.Path.{fun_ext}
-use Rattle.model.specs.Laws.Booleans.{bool_iff}
+use Rattle.model.proofs.Laws.Booleans.{bool_iff}
 
 abbrev pub Set : Type 0
 Set = ℕ → Bool

@@ -10,10 +10,10 @@ use Rattle.std.proofs.Math.Bool.{false, true}
 use Rattle.std.proofs.Math.Path.{ap, fun_ext, refl, sym}
 use Rattle.std.proofs.Math.Decide.{dec_lt, ℕ_discrete}
 use Rattle.model.specs.Finite.{every}
-use Rattle.model.specs.Laws.Bit.{high_bit, or_same, same_or}
-use Rattle.model.specs.Laws.Booleans.{and-make, is_false}
-use Rattle.model.specs.Laws.Finite.{every-make, every-use}
-use Rattle.model.specs.Laws.Sets.{Narrow}
+use Rattle.model.proofs.Laws.Bit.{high_bit, or_same, same_or}
+use Rattle.model.proofs.Laws.Booleans.{and-make, is_false}
+use Rattle.model.proofs.Laws.Finite.{every-make, every-use}
+use Rattle.model.proofs.Laws.Sets.{Narrow}
 use Rattle.model.specs.Tables.{bit_at, bits, place_h, place_i, policy_right, table_right, table_sized, test_bit}
 
 module _ (n : ℕ) (t f : ℕ → Bool) where

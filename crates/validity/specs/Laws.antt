@@ -5,13 +5,13 @@ use Rattle.std.proofs.Math.ListN.{length}
 use Rattle.std.proofs.lemmas.List.{length-replicate}
 use Rattle.std.proofs.Math.Decide.{dec_le, ℕ_discrete}
 use Rattle.model.specs.Climbing.{climb, reaches, reaching, view_from}
-use Rattle.model.specs.Laws.Bytes.{at-whole, length-records, size-le, size-whole, sound-record}
-use Rattle.model.specs.Laws.Checks.{each-pass, need-make, need-refuse, then_next, then-refuse}
-use Rattle.model.specs.Laws.Booleans.{and_left, bool_iff}
-use Rattle.model.specs.Laws.Finite.{replicated}
-use Rattle.model.specs.Laws.Forest.{Depth, above, depth_le, under_of}
-use Rattle.model.specs.Laws.Updates.{at-over, at-root}
-use Rattle.model.specs.Laws.Views.{depth-reaches, reaches-depth}
+use Rattle.model.proofs.Laws.Bytes.{at-whole, length-records, size-le, size-whole, sound-record}
+use Rattle.model.proofs.Laws.Checks.{each-pass, need-make, need-refuse, then_next, then-refuse}
+use Rattle.model.proofs.Laws.Booleans.{and_left, bool_iff}
+use Rattle.model.proofs.Laws.Finite.{replicated}
+use Rattle.model.proofs.Laws.Forest.{Depth, above, depth_le, under_of}
+use Rattle.model.proofs.Laws.Updates.{at-over, at-root}
+use Rattle.model.proofs.Laws.Views.{depth-reaches, reaches-depth}
 use Rattle.model.specs.Records.{at, count, decode, parent_of, records}
 use Rattle.model.specs.Refusals.{each_of, pass, refuse}
 use Rattle.model.specs.Validity.{climb_check, form, parent_right, record_check, size_right}

@@ -9,9 +9,9 @@ use Rattle.std.proofs.Math.Option.{Option, none}
 use Rattle.std.proofs.Math.Path.{ap, ap₂, fun_ext, subst, sym}
 use Rattle.std.proofs.Math.Decide.{ℕ_discrete}
 use Rattle.model.specs.Finite.{lowest, some_of}
-use Rattle.model.specs.Laws.Booleans.{and_left, and-make, and_right}
-use Rattle.model.specs.Laws.Finite.{lowest-make, lowest-none, lowest-nothing, lowest-some, replicated, some_of-make, some_of-use}
-use Rattle.model.specs.Laws.Reach.{reached-below, reached-inside, reached-next, reached-start, trues, trues-le}
+use Rattle.model.proofs.Laws.Booleans.{and_left, and-make, and_right}
+use Rattle.model.proofs.Laws.Finite.{lowest-make, lowest-none, lowest-nothing, lowest-some, replicated, some_of-make, some_of-use}
+use Rattle.model.proofs.Laws.Reach.{reached-below, reached-inside, reached-next, reached-start, trues, trues-le}
 use Rattle.model.specs.Tables.{Table, is_boundary, is_high, parts, place_i}
 use Rattle.model.specs.Verdicts.{exposed, in_r, marked, opening, reached, verdict_by, verdict_of}
 use Rattle.model.specs.declared.Verdict.TheVariants.{Exposed, Hinted, Sealed}

@@ -3,7 +3,7 @@ use Rattle.std.specs.Prelude.{◌*◌, ◌+◌, ◌<◌, ◌≤◌, suc, zero, �
 use Rattle.std.proofs.Common.{length-set, get_or-set_other, get_or-set_same, ◌∙◌, ap, sym, add-one, arith}
 use Rattle.std.proofs.Math.Decide.{ℕ_discrete}
 use Rattle.model.specs.Climbing.{climb}
-use Rattle.model.specs.Laws.Bytes.{at-whole}
+use Rattle.model.proofs.Laws.Bytes.{at-whole}
 use Rattle.model.specs.Records.{count, decode, parent_of, records}
 use Rattle.ways.specs.Ways.{Passable, Inside, Leads, StartsAt}
 

@@ -3,9 +3,9 @@
 use Rattle.std.specs.Prelude.{◌-◌, ◌<◌, ◌≤◌, suc, zero, ℕ, get_or, length, List, ◌≢◌, ◌≡◌, refl}
 use Rattle.std.proofs.Common.{◌∙◌, ap, sym, arith}
 use Rattle.model.specs.Climbing.{climb}
-use Rattle.model.specs.Laws.Bytes.{at-whole, length-records, valid-wf, valid-whole}
-use Rattle.model.specs.Laws.Forest.{Depth, above, depth_le}
-use Rattle.model.specs.Laws.WellFormed.{WellFormed, parent_in, small}
+use Rattle.model.proofs.Laws.Bytes.{at-whole, length-records, valid-wf, valid-whole}
+use Rattle.model.proofs.Laws.Forest.{Depth, above, depth_le}
+use Rattle.model.proofs.Laws.WellFormed.{WellFormed, parent_in, small}
 use Rattle.model.specs.Records.{at, count, decode, is_ambient, parent_of, records}
 use Rattle.model.specs.Refusals.{pass}
 use Rattle.model.specs.Validity.{validity}

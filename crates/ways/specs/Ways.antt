@@ -1,7 +1,7 @@
 -- What the contracts cite: a way up from a record.
 use Rattle.std.specs.Prelude.{◌%◌, ◌<◌, ◌≤◌, ℕ, get_or, length, List, ◌≢◌, ◌≡◌}
 use Rattle.model.specs.Climbing.{climb}
-use Rattle.model.specs.Laws.Forest.{Depth}
+use Rattle.model.proofs.Laws.Forest.{Depth}
 use Rattle.model.specs.Records.{count, parent_of, records}
 use Rattle.ways.specs.declared.Way.{Way}
 

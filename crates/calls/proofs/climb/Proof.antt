@@ -1,6 +1,6 @@
 -- `calls::climb` meets its contract. What passes is valid and has a right policy.
 use borrow.Author.Rules.{rules}
-use Rattle.model.specs.Laws.Checks.{passed, passes, refused-by}
+use Rattle.model.proofs.Laws.Checks.{passed, passes, refused-by}
 use Rattle.model.specs.Calls.{entry}
 use Rattle.calls.specs.Laws.{climb-done, climb-refused}
 use Rattle.model.specs.Numbers.{climbed_as}

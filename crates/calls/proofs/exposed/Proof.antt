@@ -1,6 +1,6 @@
 -- `calls::exposed` meets its contract. The check first; what passes it has a right table and policy.
 use borrow.Author.Rules.{rules}
-use Rattle.model.specs.Laws.Checks.{passed, passes, refused-by}
+use Rattle.model.proofs.Laws.Checks.{passed, passes, refused-by}
 use Rattle.model.specs.Calls.{checking, comparing, entry}
 use Rattle.calls.specs.Laws.{exposed-done, exposed-refused}
 use Rattle.model.specs.Numbers.{exposure_as}

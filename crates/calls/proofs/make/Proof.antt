@@ -1,7 +1,7 @@
 -- `calls::make` meets its contract. What passes is valid and has room, and there the least table is written; a refusal leaves
 -- the table.
 use borrow.Author.Rules.{rules}
-use Rattle.model.specs.Laws.Checks.{passed, passes, refused-by}
+use Rattle.model.proofs.Laws.Checks.{passed, passes, refused-by}
 use Rattle.model.specs.Calls.{entry, making}
 use Rattle.calls.specs.Laws.{make-done, make-refused}
 use Rattle.model.specs.Numbers.{made_as}

@@ -1,6 +1,6 @@
 -- `calls::run` meets its contract. What passes is valid and has an answer's room for each step; a refusal leaves both buffers.
 use borrow.Author.Rules.{rules}
-use Rattle.model.specs.Laws.Checks.{passed, passes, refused-by}
+use Rattle.model.proofs.Laws.Checks.{passed, passes, refused-by}
 use Rattle.model.specs.Calls.{running}
 use Rattle.calls.specs.Laws.{run-done, run-refused}
 use Rattle.model.specs.Numbers.{ran_as}

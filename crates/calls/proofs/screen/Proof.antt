@@ -1,6 +1,6 @@
 -- `calls::screen` meets its contract. What passes is screened; a refusal leaves both buffers.
 use borrow.Author.Rules.{rules}
-use Rattle.model.specs.Laws.Checks.{passed, refused-by}
+use Rattle.model.proofs.Laws.Checks.{passed, refused-by}
 use Rattle.calls.specs.Laws.{screen-refused}
 use Rattle.model.specs.Numbers.{screened_as}
 use Rattle.calls.proofs.screen.Statement.{statement}

@@ -1,6 +1,6 @@
 -- `calls::sheet` meets its contract. What passes is valid and has room for the sheet; a refusal leaves the buffer.
 use borrow.Author.Rules.{rules}
-use Rattle.model.specs.Laws.Checks.{passed, passes, refused-by}
+use Rattle.model.proofs.Laws.Checks.{passed, passes, refused-by}
 use Rattle.model.specs.Calls.{showing}
 use Rattle.calls.specs.Laws.{sheet-done, sheet-refused}
 use Rattle.model.specs.Numbers.{performed_as}

@@ -2,7 +2,7 @@
 -- the bytes.
 use borrow.Author.Rules.{rules}
 use mathlib.Core.Path.{◌∙◌}
-use Rattle.model.specs.Laws.Checks.{passed, refused-by}
+use Rattle.model.proofs.Laws.Checks.{passed, refused-by}
 use Rattle.calls.specs.Laws.{step-decided, step-refused}
 use Rattle.model.specs.Numbers.{performed_as}
 use Rattle.calls.proofs.step.Statement.{statement}

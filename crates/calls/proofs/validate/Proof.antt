@@ -1,8 +1,8 @@
 -- `calls::validate` meets its contract: the checks' answer, and the number of records where they pass.
 use borrow.Author.Rules.{rules}
 use native.Mathlib.Omega.{arith}
-use Rattle.model.specs.Laws.Checks.{passed, refused-by}
-use Rattle.model.specs.Laws.Bytes.{valid-few}
+use Rattle.model.proofs.Laws.Checks.{passed, refused-by}
+use Rattle.model.proofs.Laws.Bytes.{valid-few}
 use Rattle.calls.specs.Laws.{validate-done, validate-refused}
 use Rattle.model.specs.Numbers.{validated_as}
 use Rattle.model.specs.Records.{count}

@@ -1,6 +1,6 @@
 -- `calls::verdict` meets its contract. The check first; what passes it has a right table and policy.
 use borrow.Author.Rules.{rules}
-use Rattle.model.specs.Laws.Checks.{passed, passes, refused-by}
+use Rattle.model.proofs.Laws.Checks.{passed, passes, refused-by}
 use Rattle.model.specs.Calls.{checking, comparing, entry}
 use Rattle.calls.specs.Laws.{verdict-done, verdict-refused}
 use Rattle.model.specs.Numbers.{judged_as}

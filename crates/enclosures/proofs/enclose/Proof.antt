@@ -4,7 +4,7 @@ use Prim.Native.Nat.{◌-◌, ◌≤◌}
 use native.Mathlib.Omega.{arith}
 use Rattle.ways.specs.Valid.{near-all}
 use Rattle.enclosures.specs.Laws.{Passed, passed-end, passed-next, passed-notable, passed_start}
-use Rattle.model.specs.Laws.Bytes.{valid-few}
+use Rattle.model.proofs.Laws.Bytes.{valid-few}
 use Rattle.model.specs.Records.{count}
 use Rattle.enclosures.proofs.enclose.Statement.{statement}
 use Rattle.enclosures.proofs.enclose.Tie as tie

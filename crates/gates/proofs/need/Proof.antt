@@ -1,6 +1,6 @@
 -- `gates::need` meets its contract: what was refused before stays, and otherwise the test decides.
 use borrow.Author.Rules.{rules}
-use Rattle.model.specs.Laws.Checks.{gate-kept, gate-open, need-false, need-true}
+use Rattle.model.proofs.Laws.Checks.{gate-kept, gate-open, need-false, need-true}
 use Rattle.model.specs.Numbers.{checked_as}
 use Rattle.gates.proofs.need.Statement.{statement}
 use Rattle.gates.proofs.need.Tie as tie

@@ -12,7 +12,7 @@ use Rattle.model.specs.Records.{count, records, update}
 use Rattle.model.specs.Tables.{suspects}
 use Rattle.observer.specs.Laws.{markable, sheet-gone, sheet-stands}
 use Rattle.observer.specs.Marks.{Markable}
-use Rattle.model.specs.Laws.Bytes.{valid-few, valid-whole}
+use Rattle.model.proofs.Laws.Bytes.{valid-few, valid-whole}
 use Rattle.ways.specs.Valid.{near-all}
 use Rattle.observer.proofs.hide.Statement.{statement}
 use Rattle.observer.proofs.hide.Tie as tie

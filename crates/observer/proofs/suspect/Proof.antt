@@ -1,7 +1,7 @@
 -- `observer::suspect` meets its contract.
 use mathlib.Core.Path.{◌∙◌, sym}
 use native.Mathlib.Omega.{arith}
-use Rattle.model.specs.Laws.Containers.{suspect-not-amb}
+use Rattle.model.proofs.Laws.Containers.{suspect-not-amb}
 use Rattle.model.specs.Tables.{place_s}
 use Rattle.observer.specs.Laws.{suspect-is}
 use Rattle.records.specs.Climbs.{ambient-not}

@@ -9,7 +9,7 @@ use Rattle.model.specs.Refusals.{each_of}
 use Rattle.model.specs.Validity.{record_check}
 use Rattle.model.specs.declared.Reading.TheVariants.{Refused}
 use Rattle.record_checks.specs.Reading.{reading_number}
-use Rattle.model.specs.Laws.Checks.{Rest, rest_end, rest-next, rest-refuse, rest-start}
+use Rattle.model.proofs.Laws.Checks.{Rest, rest_end, rest-next, rest-refuse, rest-start}
 use Rattle.record_checks.specs.Laws.{reading-pass, reading-refuse}
 use Rattle.record_checks.proofs.read_all.Statement.{statement}
 use Rattle.record_checks.proofs.read_all.Tie as tie

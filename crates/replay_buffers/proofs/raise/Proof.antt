@@ -6,7 +6,7 @@ use lib.ListN.{get_or, set}
 use lib.Seq.{set_out}
 use mathlib.Core.Path.{ap, sym}
 use native.Mathlib.Omega.{arith}
-use Rattle.model.specs.Laws.Bit.{one_shl}
+use Rattle.model.proofs.Laws.Bit.{one_shl}
 use Rattle.replay_buffers.specs.Storing.{raised}
 use Rattle.replay_buffers.proofs.raise.Statement.{statement}
 use Rattle.replay_buffers.proofs.raise.Tie as tie

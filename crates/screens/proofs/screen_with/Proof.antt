@@ -1,6 +1,6 @@
 -- `screens::screen_with` meets its contract: the table is made, judged and not kept, and then the script is run.
 use borrow.Author.Rules.{rules}
-use Rattle.model.specs.Laws.Checks.{passes}
+use Rattle.model.proofs.Laws.Checks.{passes}
 use Rattle.model.specs.Calls.{entry, screening}
 use Rattle.screens.specs.Laws.{run-sized, screen-done}
 use Rattle.screens.proofs.screen_with.Statement.{statement}

@@ -1,6 +1,6 @@
 -- `sequences::checking` meets its contract: 9 looks only at what the checks before it let through.
 use borrow.Author.Rules.{rules}
-use Rattle.model.specs.Laws.Checks.{passed, passes, stopped}
+use Rattle.model.proofs.Laws.Checks.{passed, passes, stopped}
 use Rattle.model.specs.Calls.{checking, comparing, entry}
 use Rattle.sequences.proofs.checking.Statement.{statement}
 use Rattle.sequences.proofs.checking.Tie as tie

@@ -1,7 +1,7 @@
 -- `steps::act` meets its contract: what is decided is the outcome; a refusal leaves the bytes, and the pass is the move.
 use borrow.Author.Rules.{rules}
 use mathlib.Core.Path.{◌∙◌, sym}
-use Rattle.model.specs.Laws.Bytes.{valid-whole}
+use Rattle.model.proofs.Laws.Bytes.{valid-whole}
 use Rattle.steps.specs.Laws.{act-done, act-refused}
 use Rattle.steps.proofs.act.Statement.{statement}
 use Rattle.steps.proofs.act.Tie as tie

@@ -5,7 +5,7 @@ use Rattle.steps.specs.Moves.{applied, remade}
 use native.Mathlib.Omega.{arith}
 use mathlib.Core.Path.{◌∙◌, ◌≡◌, refl}
 use Prim.Native.Nat.{◌-◌, ◌≤◌}
-use Rattle.model.specs.Laws.Bytes.{valid-few, valid-whole}
+use Rattle.model.proofs.Laws.Bytes.{valid-few, valid-whole}
 use Rattle.steps.proofs.apply.Statement.{statement}
 use Rattle.steps.proofs.apply.Tie as tie
 

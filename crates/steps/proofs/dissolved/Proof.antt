@@ -1,7 +1,7 @@
 -- `steps::dissolved` meets its contract.
 use borrow.Author.Rules.{rules}
 use mathlib.Core.Path.{◌∙◌, sym}
-use Rattle.model.specs.Laws.Updates.{dissolved-moved, dissolved-self, dissolved-stays}
+use Rattle.model.proofs.Laws.Updates.{dissolved-moved, dissolved-self, dissolved-stays}
 use Rattle.steps.proofs.dissolved.Statement.{statement}
 use Rattle.steps.proofs.dissolved.Tie as tie
 

@@ -1,7 +1,7 @@
 -- `steps::placed` meets its contract.
 use borrow.Author.Rules.{rules}
 use mathlib.Core.Path.{◌∙◌, sym}
-use Rattle.model.specs.Laws.Updates.{placed-other, placed-self}
+use Rattle.model.proofs.Laws.Updates.{placed-other, placed-self}
 use Rattle.steps.proofs.placed.Statement.{statement}
 use Rattle.steps.proofs.placed.Tie as tie
 

@@ -1,6 +1,6 @@
 -- `table_closure::close` meets its contract. I first, which never reads S; then S with the movers of that I.
 use Rattle.table_closure.specs.Rounds.{close-end}
-use Rattle.model.specs.Laws.Finite.{replicated}
+use Rattle.model.proofs.Laws.Finite.{replicated}
 use borrow.Author.Rules.{rules}
 use mathlib.Core.Path.{refl}
 use Rattle.table_closure.proofs.close.Statement.{statement}

@@ -3,7 +3,7 @@
 -- adds no capability, it adds no mover, and I is closed. Else the count grows: what is left of 64 * 64 falls.
 use Prim.Native.Nat.{◌-◌}
 use Rattle.table_closure.specs.Rounds.{round-end, round-on, round-only}
-use Rattle.model.specs.Laws.Sets.{Narrow}
+use Rattle.model.proofs.Laws.Sets.{Narrow}
 use Rattle.tables.specs.Grow.{Grown, Any, start}
 use lib.ListN.{length}
 use mathlib.Core.Path.{◌∙◌, ◌≡◌, refl}

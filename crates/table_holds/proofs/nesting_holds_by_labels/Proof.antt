@@ -11,7 +11,7 @@ use native.Mathlib.Omega.{arith}
 use Rattle.table_holds.specs.Laws.{read-stood}
 use Rattle.table_holds.specs.Tests.{nesting_holds, stood}
 use Rattle.model.specs.Climbing.{container}
-use Rattle.model.specs.Laws.Bytes.{length-records, valid-few}
+use Rattle.model.proofs.Laws.Bytes.{length-records, valid-few}
 use Rattle.model.specs.Records.{at, count, nested, records}
 use Rattle.model.specs.Tables.{bits, parts}
 use Rattle.table_partners.specs.Facts.{standing}

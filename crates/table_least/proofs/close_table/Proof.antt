@@ -2,7 +2,7 @@
 -- those of the records as long as H does not grow, and it never does.
 use borrow.Author.Rules.{rules}
 use mathlib.Core.Path.{refl}
-use Rattle.model.specs.Laws.Finite.{replicated}
+use Rattle.model.proofs.Laws.Finite.{replicated}
 use Rattle.table_least.specs.Laws.{close-made}
 use Rattle.table_least.proofs.close_table.Statement.{statement}
 use Rattle.table_least.proofs.close_table.Tie as tie

@@ -2,7 +2,7 @@
 use borrow.Author.Rules.{rules}
 use mathlib.Core.Path.{◌∙◌}
 use Rattle.table_least.specs.Laws.{made}
-use Rattle.model.specs.Laws.Bytes.{valid-wf}
+use Rattle.model.proofs.Laws.Bytes.{valid-wf}
 use Rattle.model.specs.Records.{records}
 use Rattle.table_least.proofs.write_least.Statement.{statement}
 use Rattle.table_least.proofs.write_least.Tie as tie

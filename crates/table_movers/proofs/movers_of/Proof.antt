@@ -1,6 +1,6 @@
 -- `table_movers::movers_of`: the odd words transposed have the holders of each capability label, and a holder of a
 -- capability is a mover of its partners.
-use Rattle.model.specs.Laws.Finite.{replicated}
+use Rattle.model.proofs.Laws.Finite.{replicated}
 use borrow.Author.Rules.{rules}
 use Rattle.table_movers.specs.Folds.{folded-movers, movers-added}
 use Rattle.table_words.specs.BitSets.{Bits}

@@ -4,7 +4,7 @@ use Prim.Native.Nat.{◌+◌, ◌-◌, ◌/◌, ◌≤◌, ℕ}
 use lib.ListN.{length}
 use mathlib.Core.Path.{◌∙◌, ◌≡◌, refl, subst, sym}
 use native.Mathlib.Omega.{arith}
-use Rattle.model.specs.Laws.Bytes.{at-decode, valid-few}
+use Rattle.model.proofs.Laws.Bytes.{at-decode, valid-few}
 use Rattle.model.specs.Records.{count, records}
 use Rattle.table_partners.specs.Partners.{Partners, borne}
 use Rattle.table_partners.specs.Laws.{partners-next, partners-none, read-shape}

@@ -1,6 +1,6 @@
 -- `table_partners::partners_of` meets its contract: H transposed has the bearers of each name, so what they bear is H.
-use Rattle.model.specs.Laws.Finite.{replicated}
-use Rattle.model.specs.Laws.Bytes.{valid-wf}
+use Rattle.model.proofs.Laws.Finite.{replicated}
+use Rattle.model.proofs.Laws.Bytes.{valid-wf}
 use Rattle.table_partners.specs.Laws.{partners-in_h}
 use borrow.Author.Rules.{rules}
 use Rattle.table_partners.proofs.partners_of.Statement.{statement}

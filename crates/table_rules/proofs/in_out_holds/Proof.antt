@@ -1,7 +1,7 @@
 -- `table_rules::in_out_holds` meets its contract. Each rule of in and out for the pair is an inclusion of words; each test
 -- that fails denies one of them, and the three together are all.
 use Rattle.table_rules.specs.Laws.{decide-no, moves-in, moves-make, moves_out, moves-suspect}
-use Rattle.model.specs.Laws.Sets.{Narrow}
+use Rattle.model.proofs.Laws.Sets.{Narrow}
 use borrow.Author.Rules.{rules}
 use borrow.Author.Tests.{not-false, not-true}
 use mathlib.Core.Bool.{true≢false}

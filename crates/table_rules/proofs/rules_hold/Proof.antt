@@ -1,7 +1,7 @@
 -- `table_rules::rules_hold` meets its contract: the rules hold for all rows by the movers exactly where they do by the
 -- partners, and these are the rules of all records.
 use Rattle.table_rules.specs.Laws.{rules-by}
-use Rattle.model.specs.Laws.Finite.{replicated}
+use Rattle.model.proofs.Laws.Finite.{replicated}
 use Rattle.table_movers.specs.Movers.{clear-only}
 use borrow.Author.Rules.{rules}
 use mathlib.Core.Path.{refl}

@@ -12,7 +12,7 @@ use Rattle.model.specs.Records.{count, records}
 use Rattle.model.specs.Tables.{bits}
 use Rattle.table_partners.specs.Facts.{bearing, name_cell}
 use Rattle.table_partners.specs.Standing.{bears, bears-not}
-use Rattle.model.specs.Laws.Bytes.{valid-few}
+use Rattle.model.proofs.Laws.Bytes.{valid-few}
 use Rattle.table_seed.proofs.fill_names.Statement.{statement}
 use Rattle.table_seed.proofs.fill_names.Tie as tie
 

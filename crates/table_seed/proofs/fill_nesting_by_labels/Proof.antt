@@ -12,7 +12,7 @@ use Rattle.model.specs.Records.{count, nested, records}
 use Rattle.model.specs.Tables.{bits}
 use Rattle.table_partners.specs.Facts.{nesting_cell, standing}
 use Rattle.table_partners.specs.Standing.{stands, stands-not}
-use Rattle.model.specs.Laws.Bytes.{valid-few}
+use Rattle.model.proofs.Laws.Bytes.{valid-few}
 use Rattle.ways.specs.Valid.{parent-near}
 use Rattle.table_seed.proofs.fill_nesting_by_labels.Statement.{statement}
 use Rattle.table_seed.proofs.fill_nesting_by_labels.Tie as tie

@@ -3,7 +3,7 @@ use Prim.Native.Nat.{◌%◌, ◌/◌, ℕ}
 use borrow.Author.Rules.{rules}
 use mathlib.Core.Path.{ap}
 use native.Mathlib.Omega.{arith}
-use Rattle.model.specs.Laws.Bit.{one_shl}
+use Rattle.model.proofs.Laws.Bit.{one_shl}
 use Rattle.table_words.specs.BitSets.{or_at}
 use Rattle.table_seed.proofs.set_bit.Statement.{statement}
 use Rattle.table_seed.proofs.set_bit.Tie as tie

@@ -3,7 +3,7 @@
 -- the one taken is cleared.
 use Prim.Native.Nat.{◌%◌, ◌*◌, ◌<◌, ◌^◌, ◌≤◌, ℕ}
 use Rattle.table_suspects.specs.Suspects.{SuspectsGrowing, suspects-end, suspects-next, suspects-none, suspects-same}
-use Rattle.model.specs.Laws.Bit.{one_shl}
+use Rattle.model.proofs.Laws.Bit.{one_shl}
 use lib.Bits.{and_le_r, bit_and, bit_xor}
 use lib.Count.{count_trailing_zeros}
 use lib.ListN.{length-set}

@@ -1,6 +1,6 @@
 -- `tables::policy_gate` meets its contract: what was refused before stays, and otherwise the test decides.
 use borrow.Author.Rules.{rules}
-use Rattle.model.specs.Laws.Checks.{gate-kept}
+use Rattle.model.proofs.Laws.Checks.{gate-kept}
 use Rattle.tables.proofs.policy_gate.Statement.{statement}
 use Rattle.tables.proofs.policy_gate.Tie as tie
 

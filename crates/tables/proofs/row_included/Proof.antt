@@ -1,7 +1,7 @@
 -- `tables::row_included` meets its contract. The loop's invariant: `extra` is 0 just where x has no bit more than y in the
 -- bytes passed; the bytes to come fall.
 use Prim.Native.Nat.{◌-◌, ◌<◌, ◌≤◌}
-use Rattle.model.specs.Laws.Sets.{Narrow}
+use Rattle.model.proofs.Laws.Sets.{Narrow}
 use Rattle.tables.specs.Loops.{Extra, extra-end, extra-next, extra-none}
 use native.Mathlib.Omega.{arith}
 use Rattle.tables.proofs.row_included.Statement.{statement}

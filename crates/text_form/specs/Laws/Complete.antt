@@ -7,12 +7,12 @@ use Rattle.std.proofs.Math.Logic.{inl, inr}
 use Rattle.std.proofs.Math.Option.{Option, none, some}
 use Rattle.std.proofs.Math.Decide.{dec_le, ℕ_discrete}
 use Rattle.model.specs.Finite.{one_if, lowest, tally}
-use Rattle.model.specs.Laws.Bytes.{valid-wf}
-use Rattle.model.specs.Laws.Finite.{lowest-none, lowest-some}
-use Rattle.model.specs.Laws.Forest.{Depth, depth-unique, one_if-le, mark, mark-other, root, tally-le, tally-mark, under, under_of}
-use Rattle.model.specs.Laws.Updates.{at-root}
-use Rattle.model.specs.Laws.WellFormed.{WellFormed, alive-in, alive-pos, parent-not-self}
-use Rattle.model.specs.Laws.Booleans.{and_left, and_right}
+use Rattle.model.proofs.Laws.Bytes.{valid-wf}
+use Rattle.model.proofs.Laws.Finite.{lowest-none, lowest-some}
+use Rattle.model.proofs.Laws.Forest.{Depth, depth-unique, one_if-le, mark, mark-other, root, tally-le, tally-mark, under, under_of}
+use Rattle.model.proofs.Laws.Updates.{at-root}
+use Rattle.model.proofs.Laws.WellFormed.{WellFormed, alive-in, alive-pos, parent-not-self}
+use Rattle.model.proofs.Laws.Booleans.{and_left, and_right}
 use Rattle.model.specs.Records.{at, parent_of, records}
 use Rattle.model.specs.Refusals.{pass}
 use Rattle.model.specs.Validity.{validity}

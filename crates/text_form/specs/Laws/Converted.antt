@@ -6,7 +6,7 @@ use Rattle.std.proofs.Math.ListN.{length}
 use Rattle.std.proofs.Math.Option.{Option, none, some}
 use Rattle.std.proofs.Common.{◌∙◌, arith}
 use Rattle.std.proofs.Math.Path.{ap, sym}
-use Rattle.model.specs.Laws.Bytes.{length-encode}
+use Rattle.model.proofs.Laws.Bytes.{length-encode}
 use Rattle.model.specs.Refusals.{and_then, need, pass, refuse}
 use Rattle.model.specs.Validity.{form, size_right, validity}
 use Rattle.text_put.specs.Puts.{over}

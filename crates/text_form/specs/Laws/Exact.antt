@@ -2,8 +2,8 @@
 use Rattle.std.specs.Prelude.{◌%◌, ◌*◌, ◌+◌, ◌-◌, ◌/◌, ◌<◌, ◌≤◌, suc, zero, ℕ, eqb, leb, drop, length, replicate, Bool, false, true, List, [], ◌++◌, ◌∷◌, ◌≡◌, refl}
 use Rattle.std.proofs.Common.{eqb-true, leb-true, length-drop, drop-cons, drop-drop, true≢false, ◌∙◌, ap, sym, arith}
 use Rattle.std.proofs.Math.Option.{none, some}
-use Rattle.model.specs.Laws.Bytes.{records-encode}
-use Rattle.model.specs.Laws.Booleans.{and_right}
+use Rattle.model.proofs.Laws.Bytes.{records-encode}
+use Rattle.model.proofs.Laws.Booleans.{and_right}
 use Rattle.model.specs.Listing.{digits_in}
 use Rattle.model.specs.Records.{byte, encode, records}
 use Rattle.model.specs.Validity.{label_in}

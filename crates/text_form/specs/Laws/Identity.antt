@@ -9,15 +9,15 @@ use Rattle.std.proofs.Math.Option.{Option, none, some}
 use Rattle.std.proofs.Math.Path.{ap, refl}
 use Rattle.std.proofs.Math.Decide.{dec_lt, ℕ_discrete}
 use Rattle.model.specs.Finite.{lowest}
-use Rattle.model.specs.Laws.Bytes.{count-encode, length-records, records-encode, shape-kind, valid-few, valid-wf, wf-valid}
-use Rattle.model.specs.Laws.Finite.{lowest-some}
-use Rattle.model.specs.Laws.Forest.{Depth, root, under_of}
-use Rattle.model.specs.Laws.Updates.{at-over}
-use Rattle.model.specs.Laws.WellFormed.{WellFormed, named, shape, shape-label, shape-make}
-use Rattle.model.specs.Laws.Booleans.{and_left}
+use Rattle.model.proofs.Laws.Bytes.{count-encode, length-records, records-encode, shape-kind, valid-few, valid-wf, wf-valid}
+use Rattle.model.proofs.Laws.Finite.{lowest-some}
+use Rattle.model.proofs.Laws.Forest.{Depth, root, under_of}
+use Rattle.model.proofs.Laws.Updates.{at-over}
+use Rattle.model.proofs.Laws.WellFormed.{WellFormed, named, shape-label, shape-make}
+use Rattle.model.specs.Validity.{kind_right, label_by, label_right, name_by, name_right, shape, validity}
+use Rattle.model.proofs.Laws.Booleans.{and_left}
 use Rattle.model.specs.Records.{at, count, encode, gone, is_ambient, nested, parent_of, records}
 use Rattle.model.specs.Refusals.{content, pass}
-use Rattle.model.specs.Validity.{kind_right, label_by, label_right, name_by, name_right, validity}
 use Rattle.model.specs.declared.Rec.{Rec}
 use Rattle.text_put.specs.Puts.{over}
 use Rattle.text_form.specs.Laws.Lines.{scan-nested, scan-render}

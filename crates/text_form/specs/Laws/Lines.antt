@@ -5,7 +5,7 @@ use Rattle.std.proofs.lemmas.List.{length-replicate}
 use Rattle.std.proofs.Math.Seq.{drop-append_seam, get_or-append_seam}
 use Rattle.std.proofs.Math.Option.{none, some}
 use Rattle.std.proofs.Math.Decide.{dec_le, ℕ_discrete}
-use Rattle.model.specs.Laws.WellFormed.{label-in}
+use Rattle.model.proofs.Laws.WellFormed.{label-in}
 use Rattle.model.specs.Listing.{digits_in, field}
 use Rattle.model.specs.Records.{byte}
 use Rattle.model.specs.Validity.{label_in}

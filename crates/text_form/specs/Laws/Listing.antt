@@ -6,9 +6,9 @@ use Rattle.std.proofs.Math.Bool.{and-false}
 use Rattle.std.proofs.Math.Path.{ap, sym}
 use Rattle.model.specs.Calls.{sheet_after, sheet_answer, showing}
 use Rattle.model.specs.Climbing.{hidden}
-use Rattle.model.specs.Laws.Bytes.{records-encode, valid-size}
-use Rattle.model.specs.Laws.Checks.{answer-done, answer-refused, then-refuse, passes}
-use Rattle.model.specs.Laws.Sheet.{sheet-hidden, sheet-shown}
+use Rattle.model.proofs.Laws.Bytes.{records-encode, valid-size}
+use Rattle.model.proofs.Laws.Checks.{answer-done, answer-refused, then-refuse, passes}
+use Rattle.model.proofs.Laws.Sheet.{sheet-hidden, sheet-shown}
 use Rattle.model.specs.Numbers.{performed_as, refusal}
 use Rattle.model.specs.Observer.{sheet, sheet_of}
 use Rattle.model.specs.Records.{at, records}

@@ -10,8 +10,8 @@ use Rattle.std.proofs.Math.Option.{none}
 use Rattle.std.proofs.Math.Path.{ap, sym}
 use Rattle.std.proofs.Math.Decide.{dec_le, ℕ_discrete}
 use native.Mathlib.Omega.{arith}
-use Rattle.model.specs.Laws.Finite.{replicated}
-use Rattle.model.specs.Laws.Finite.{lowest-make, lowest-nothing}
+use Rattle.model.proofs.Laws.Finite.{replicated}
+use Rattle.model.proofs.Laws.Finite.{lowest-make, lowest-nothing}
 use Rattle.model.specs.Records.{at, gone, parent_of}
 use Rattle.model.specs.Validity.{label_in}
 use Rattle.model.specs.declared.Rec.{Rec}

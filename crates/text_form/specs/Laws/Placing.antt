@@ -8,7 +8,7 @@ use Rattle.std.proofs.Math.Option.{Option, none, some}
 use Rattle.std.proofs.Math.Path.{ap, sym}
 use native.Mathlib.Omega.{arith}
 use Rattle.records.specs.Written.{with_record, written, written-length, written_next, written_none}
-use Rattle.model.specs.Laws.Bytes.{length-encode}
+use Rattle.model.proofs.Laws.Bytes.{length-encode}
 use Rattle.model.specs.Records.{at, encode, gone}
 use Rattle.text_put.specs.Puts.{over}
 use Rattle.text_form.specs.Laws.Lines.{Got, line-good, scan-bad, scan_good, scan-nested}

@@ -8,7 +8,7 @@ use Rattle.std.proofs.Common.{length-append, ◌∙◌, arith}
 use Rattle.std.proofs.Math.Option.{Option, none, some}
 use Rattle.std.proofs.Math.Path.{◌≡◌, ap, refl, sym}
 use Rattle.model.specs.Climbing.{hidden}
-use Rattle.model.specs.Laws.Booleans.{and_right}
+use Rattle.model.proofs.Laws.Booleans.{and_right}
 use Rattle.model.specs.Listing.{digits_in, field}
 use Rattle.model.specs.Records.{records}
 use Rattle.model.specs.Refusals.{Check, content, pass, refuse}

@@ -7,7 +7,7 @@ use Rattle.std.proofs.Common.{length-drop, take_all, true≢false, ◌∙◌, ap
 use Rattle.std.proofs.Math.Seq.{drop-cons}
 use Rattle.std.proofs.Math.Decide.{dec_lt, ℕ_discrete}
 use native.Mathlib.Omega.{arith}
-use Rattle.model.specs.Laws.Booleans.{and_left}
+use Rattle.model.proofs.Laws.Booleans.{and_left}
 use Rattle.model.specs.Records.{byte}
 use Rattle.model.specs.Validity.{label_in}
 use Rattle.text_form.specs.Laws.Lines.{numeral-0, numeral-1, numeral-2, numeral-3}

@@ -9,7 +9,7 @@ use mathlib.Core.List.{List, [], ◌++◌, ◌∷◌, map}
 use Rattle.std.proofs.Math.Path.{ap, refl}
 use native.Mathlib.Omega.{arith}
 use Rattle.model.specs.Finite.{lowest, unequal}
-use Rattle.model.specs.Laws.Bytes.{at-whole, length-records, valid-few, valid-whole}
+use Rattle.model.proofs.Laws.Bytes.{at-whole, length-records, valid-few, valid-whole}
 use Rattle.model.specs.Listing.{field}
 use Rattle.model.specs.Records.{at, count, decode, records}
 use Rattle.model.specs.Refusals.{content, pass, refuse}

@@ -3,7 +3,7 @@ use borrow.Author.Rules.{rules}
 use borrow.Author.Tests.{not-false, not-true}
 use mathlib.Core.Path.{◌∙◌, ap, sym}
 use native.Mathlib.Omega.{arith}
-use Rattle.model.specs.Laws.WellFormed.{label-in}
+use Rattle.model.proofs.Laws.WellFormed.{label-in}
 use Rattle.text_form.specs.Laws.Scanning.{labelled-none, labelled-on, labelled-wrong, part, width-inside}
 use Rattle.text_form.specs.Reading.{named}
 use Rattle.text_line.proofs.labelled.Statement.{statement}

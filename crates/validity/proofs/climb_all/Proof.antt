@@ -11,7 +11,7 @@ use Rattle.model.specs.Records.{records}
 use Rattle.model.specs.Refusals.{each_of}
 use Rattle.model.specs.Validity.{climb_check}
 use Rattle.validity.specs.Known.{Climbable}
-use Rattle.model.specs.Laws.Checks.{Rest, rest_end, rest-next, rest-refuse, rest-start}
+use Rattle.model.proofs.Laws.Checks.{Rest, rest_end, rest-next, rest-refuse, rest-start}
 use Rattle.validity.specs.Laws.{climb-pass, climb-refuse, climbable, enough-all}
 use Rattle.validity.proofs.climb_all.Statement.{statement}
 use Rattle.validity.proofs.climb_all.Tie as tie

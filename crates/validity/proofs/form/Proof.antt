@@ -3,8 +3,8 @@ use borrow.Author.Rules.{rules}
 use borrow.Author.Tests.{not-false, not-true}
 use mathlib.Core.Path.{◌∙◌, refl, sym}
 use native.Mathlib.Omega.{arith}
-use Rattle.model.specs.Laws.Bytes.{form-size, size-le}
-use Rattle.model.specs.Laws.Checks.{passed, refused-by}
+use Rattle.model.proofs.Laws.Bytes.{form-size, size-le}
+use Rattle.model.proofs.Laws.Checks.{passed, refused-by}
 use Rattle.model.specs.Numbers.{checked_as}
 use Rattle.model.specs.Records.{count}
 use Rattle.model.specs.Validity.{size_right}

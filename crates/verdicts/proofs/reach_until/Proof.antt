@@ -6,7 +6,7 @@ use borrow.Author.Rules.{rules}
 use lib.ListN.{length, length-set}
 use mathlib.Core.Path.{◌∙◌, ◌≡◌, sym}
 use native.Mathlib.Omega.{arith}
-use Rattle.model.specs.Laws.Reach.{trues}
+use Rattle.model.proofs.Laws.Reach.{trues}
 use Rattle.model.specs.Tables.{bits}
 use Rattle.model.specs.Verdicts.{marked}
 use Rattle.verdicts.specs.Laws.{Seen, Unseen, all-until, fewer-left, met-until, reach-inside, reach-is, seen_all, seen_more, seen_none, step-on, unseen-at, unseen-none}

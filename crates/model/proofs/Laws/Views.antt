@@ -5,8 +5,8 @@ use Rattle.std.proofs.Common.{true≢false, ◌∙◌, ap, sym}
 use Rattle.std.proofs.Math.Path.{refl}
 use native.Mathlib.Omega.{arith}
 use Rattle.model.specs.Climbing.{View, reaching, view, view_from}
-use Rattle.model.specs.Laws.Forest.{Depth, above, root, under}
-use Rattle.model.specs.Laws.WellFormed.{WellFormed, depths}
+use Rattle.model.proofs.Laws.Forest.{Depth, above, root, under}
+use Rattle.model.proofs.Laws.WellFormed.{WellFormed, depths}
 use Rattle.model.specs.Records.{at, parent_of}
 use Rattle.model.specs.declared.Rec.{Rec}
 

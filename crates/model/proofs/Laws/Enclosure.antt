@@ -6,13 +6,13 @@ use Rattle.std.proofs.Math.Path.{ap, refl}
 use Rattle.std.proofs.Math.Decide.{ℕ_discrete}
 use Rattle.model.specs.Calls.{climb_answer, entry}
 use Rattle.model.specs.Climbing.{View, bounded, climb, enclosing, enclosure, is_bound, nearest, nesting, view, view_from}
-use Rattle.model.specs.Laws.Booleans.{and_left, and-make, and_right}
-use Rattle.model.specs.Laws.Bytes.{valid-wf}
-use Rattle.model.specs.Laws.Checks.{answer-done, answer-value, then-left}
-use Rattle.model.specs.Laws.Forest.{Depth, root, under}
-use Rattle.model.specs.Laws.Updates.{at-root}
-use Rattle.model.specs.Laws.Views.{view-on, view-top}
-use Rattle.model.specs.Laws.WellFormed.{WellFormed}
+use Rattle.model.proofs.Laws.Booleans.{and_left, and-make, and_right}
+use Rattle.model.proofs.Laws.Bytes.{valid-wf}
+use Rattle.model.proofs.Laws.Checks.{answer-done, answer-value, then-left}
+use Rattle.model.proofs.Laws.Forest.{Depth, root, under}
+use Rattle.model.proofs.Laws.Updates.{at-root}
+use Rattle.model.proofs.Laws.Views.{view-on, view-top}
+use Rattle.model.proofs.Laws.WellFormed.{WellFormed}
 use Rattle.model.specs.Noninterference.{BoundaryAt}
 use Rattle.model.specs.Records.{at, is_ambient, parent_of, records}
 use Rattle.model.specs.Refusals.{pass}

@@ -5,8 +5,8 @@ use Rattle.std.proofs.Common.{true≢false, ◌∙◌, ap, sym, arith}
 use Rattle.std.proofs.Math.Option.{Option, none, some}
 use Rattle.model.specs.Calls.{checking, exposed_answer, verdict_answer}
 use Rattle.model.specs.Finite.{lowest, some_of}
-use Rattle.model.specs.Laws.Booleans.{and_left, and-make, and_right}
-use Rattle.model.specs.Laws.Finite.{lowest-none, lowest-some, some_of-make, some_of-use}
+use Rattle.model.proofs.Laws.Booleans.{and_left, and-make, and_right}
+use Rattle.model.proofs.Laws.Finite.{lowest-none, lowest-some, some_of-make, some_of-use}
 use Rattle.model.specs.Refusals.{Check, answer, pass, read_off, refuse}
 use Rattle.model.specs.Requests.{ExposedAsVerdict, is_exposed}
 use Rattle.model.specs.Tables.{Table, bits, is_high, parts}

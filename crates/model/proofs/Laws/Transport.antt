@@ -5,11 +5,11 @@ use Rattle.std.proofs.Common.{true≢false, ◌∙◌, ap, sym, arith}
 use Rattle.std.proofs.Math.Decide.{ℕ_discrete}
 use Rattle.model.specs.Analysis.{Permit}
 use Rattle.model.specs.Climbing.{View, view}
-use Rattle.model.specs.Laws.Done.{Done, Stays, cap-pos, first-cap, first-wf, halfway, in-live, in-place-wf, move-first, out-live, out-place-wf, partner-pos}
-use Rattle.model.specs.Laws.Forest.{Depth, above, depth-unique, under_of}
-use Rattle.model.specs.Laws.Updates.{dissolve-self}
-use Rattle.model.specs.Laws.Views.{fold-carry, view_laws, view-on}
-use Rattle.model.specs.Laws.WellFormed.{Alive, SameBut, WellFormed, alive-pos, dissolve-closed, dissolve-parent-moved, dissolve-parent-stays, dissolve-same, dissolve-wf, labels, place-parent, place-parent-other, place_same, same-nested}
+use Rattle.model.proofs.Laws.Done.{Done, Stays, cap-pos, first-cap, first-wf, halfway, in-live, in-place-wf, move-first, out-live, out-place-wf, partner-pos}
+use Rattle.model.proofs.Laws.Forest.{Depth, above, depth-unique, under_of}
+use Rattle.model.proofs.Laws.Updates.{dissolve-self}
+use Rattle.model.proofs.Laws.Views.{fold-carry, view_laws, view-on}
+use Rattle.model.proofs.Laws.WellFormed.{Alive, SameBut, WellFormed, alive-pos, dissolve-closed, dissolve-parent-moved, dissolve-parent-stays, dissolve-same, dissolve-wf, labels, place-parent, place-parent-other, place_same, same-nested}
 use Rattle.model.specs.Records.{Capability, at, cap-in, cap-open, cap-out, is_ambient, nested, parent_of}
 use Rattle.model.specs.Steps.{dissolve, move, place}
 use Rattle.model.specs.declared.Rec.{Rec}

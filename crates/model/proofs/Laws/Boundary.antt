@@ -10,14 +10,14 @@ use Rattle.std.proofs.Math.Path.{refl}
 use Rattle.model.specs.Analysis.{Permit}
 use Rattle.model.specs.Climbing.{climb, nearest, nesting}
 use Rattle.model.specs.Finite.{lowest}
-use Rattle.model.specs.Laws.Booleans.{and_left, and-make, and_right}
-use Rattle.model.specs.Laws.Containers.{nearest-amb, nearest-small, nearest-up}
-use Rattle.model.specs.Laws.Finite.{lowest-none}
-use Rattle.model.specs.Laws.Forest.{Depth, root, under}
-use Rattle.model.specs.Laws.Holding.{Holds}
-use Rattle.model.specs.Laws.Reach.{reached-inside, reached-next, reached-start}
-use Rattle.model.specs.Laws.Views.{view-top}
-use Rattle.model.specs.Laws.WellFormed.{WellFormed, amb-nested, small}
+use Rattle.model.proofs.Laws.Booleans.{and_left, and-make, and_right}
+use Rattle.model.proofs.Laws.Containers.{nearest-amb, nearest-small, nearest-up}
+use Rattle.model.proofs.Laws.Finite.{lowest-none}
+use Rattle.model.proofs.Laws.Forest.{Depth, root, under}
+use Rattle.model.proofs.Laws.Holding.{Holds}
+use Rattle.model.proofs.Laws.Reach.{reached-inside, reached-next, reached-start}
+use Rattle.model.proofs.Laws.Views.{view-top}
+use Rattle.model.proofs.Laws.WellFormed.{WellFormed, amb-nested, small}
 use Rattle.model.specs.Records.{at, is_ambient, parent_of}
 use Rattle.model.specs.Tables.{Table, is_boundary, is_high}
 use Rattle.model.specs.Verdicts.{in_r, opening, verdict_by, verdict_of}

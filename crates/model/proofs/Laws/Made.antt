@@ -3,10 +3,10 @@ use Rattle.std.specs.Prelude.{◌<◌, ℕ, true, List, ◌≡◌}
 use Rattle.std.proofs.Common.{ap, sym}
 use Rattle.model.specs.Analysis.{permit_all}
 use Rattle.model.specs.Calls.{check_answer, checking, entry, make_after, make_answer, making, screen_answer, screening, verdict_answer}
-use Rattle.model.specs.Laws.Bytes.{valid-wf}
-use Rattle.model.specs.Laws.Checks.{answer-done, answer-value, passes}
-use Rattle.model.specs.Laws.Least.{least-table-below, least-table-holds, least-table-right}
-use Rattle.model.specs.Laws.Secrecy.{accept, accepted}
+use Rattle.model.proofs.Laws.Bytes.{valid-wf}
+use Rattle.model.proofs.Laws.Checks.{answer-done, answer-value, passes}
+use Rattle.model.proofs.Laws.Least.{least-table-below, least-table-holds, least-table-right}
+use Rattle.model.proofs.Laws.Secrecy.{accept, accepted}
 use Rattle.model.specs.Least.{least_table}
 use Rattle.model.specs.Records.{records}
 use Rattle.model.specs.Refusals.{answer, content, done, pass}

@@ -3,17 +3,13 @@ use Rattle.std.specs.Prelude.{◌<◌, ◌≤◌, suc, ℕ, leb, length, Bool, �
 use Rattle.std.proofs.Common.{eqb-true, leb-true, true≢false, ◌∙◌, ap, sym, arith}
 use Rattle.std.proofs.Math.Bool.{true}
 use Rattle.std.proofs.Math.Decide.{dec_le, ℕ_discrete}
-use Rattle.model.specs.Laws.Booleans.{and_left, and_right}
-use Rattle.model.specs.Laws.Forest.{Depth, Follows, depth-along, depth_le, follows, not-own-parent, past, reparent-depth, reparent-high, root, under_of}
-use Rattle.model.specs.Laws.Updates.{at-over, at-root, dissolve-moved, dissolve-self, dissolve-stays, place_other, place-self}
+use Rattle.model.proofs.Laws.Booleans.{and_left, and_right}
+use Rattle.model.proofs.Laws.Forest.{Depth, Follows, depth-along, depth_le, follows, not-own-parent, past, reparent-depth, reparent-high, root, under_of}
+use Rattle.model.proofs.Laws.Updates.{at-over, at-root, dissolve-moved, dissolve-self, dissolve-stays, place_other, place-self}
 use Rattle.model.specs.Records.{at, gone, is_ambient, nested, parent_of}
 use Rattle.model.specs.Steps.{dissolve, place, to}
-use Rattle.model.specs.Validity.{kind_right, label_by, label_in, label_right, name_by, name_right}
+use Rattle.model.specs.Validity.{kind_right, label_by, label_in, label_right, name_by, name_right, shape}
 use Rattle.model.specs.declared.Rec.{Rec}
-
--- kind, label and name fit together
-unfoldable pub shape : Rec → Bool
-shape r = kind_right r && (label_right r && name_right r)
 
 pub record WellFormed (its : List Rec) : Type 0 where
   pub parents : (i : ℕ) → parent_of its i ≢ 0 → (at its (parent_of its i)).kind ≢ 0

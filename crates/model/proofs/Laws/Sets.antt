@@ -8,9 +8,9 @@ use Rattle.std.proofs.Math.Decide.{dec_lt}
 use Rattle.std.proofs.Math.Nat.{pow-suc}
 use native.Mathlib.Omega.{arith}
 use Rattle.model.specs.Finite.{one_if}
-use Rattle.model.specs.Laws.Bit.{bits-ext, half-bit, high_bit, lowest-bit}
-use Rattle.model.specs.Laws.Finite.{every-make, every-use, get_d_tabulate, length-tabulate}
-use Rattle.model.specs.Laws.Forest.{one_if-le}
+use Rattle.model.proofs.Laws.Bit.{bits-ext, half-bit, high_bit, lowest-bit}
+use Rattle.model.proofs.Laws.Finite.{every-make, every-use, get_d_tabulate, length-tabulate}
+use Rattle.model.proofs.Laws.Forest.{one_if-le}
 use Rattle.model.specs.Least.{bytes, least, numeral}
 use Rattle.model.specs.Records.{byte}
 use Rattle.model.specs.Tables.{bit_at, bits, test_bit}

@@ -8,9 +8,9 @@ use mathlib.Core.List.{List, [], ◌∷◌}
 use Rattle.std.proofs.Math.Path.{ap₂, refl}
 use Rattle.std.proofs.Common.{arith}
 use Rattle.model.specs.Analysis.{Permit, permit_all}
-use Rattle.model.specs.Laws.Bytes.{valid-wf}
-use Rattle.model.specs.Laws.Done.{step-records, step-valid, refused-number}
-use Rattle.model.specs.Laws.Reductions.{reduction-steps, step-reduces}
+use Rattle.model.proofs.Laws.Bytes.{valid-wf}
+use Rattle.model.proofs.Laws.Done.{step-records, step-valid, refused-number}
+use Rattle.model.proofs.Laws.Reductions.{reduction-steps, step-reduces}
 use Rattle.model.specs.Processes.{Chain, Means, Process, Reduces, alike, beside, done_in, ended, enters, leaves, opens, reduced, within}
 use Rattle.model.specs.Records.{Capability, records}
 use Rattle.model.specs.Refusals.{pass}

@@ -6,14 +6,14 @@ use Rattle.std.proofs.Math.Option.{Option, none, some}
 use Rattle.std.proofs.Math.Path.{ap, refl, sym}
 use Rattle.model.specs.Analysis.{Permit}
 use Rattle.model.specs.Climbing.{ambient_and, ambients, hidden, is_suspect, ambients_only}
-use Rattle.model.specs.Laws.Containers.{hidden-suspect, hidden-up, suspect-not-amb}
-use Rattle.model.specs.Laws.Done.{Done, Stays, amb-alive, cap-alive, cap-not-amb, done-of, done-other, move-length, open-beside, outcome-done}
-use Rattle.model.specs.Laws.Hiding.{move-hidden}
-use Rattle.model.specs.Laws.Holding.{Holds}
-use Rattle.model.specs.Laws.Sheet.{by-hidden, ext-at, move-gone, partner-shown, sheet-gone, sheet-hidden, sheet-length, sheet-move, sheet-parent, sheet-shown, sheet-wf, shown-parent, stays?}
-use Rattle.model.specs.Laws.Updates.{dissolve-stays, place_other}
-use Rattle.model.specs.Laws.Views.{fold-carry, view_laws}
-use Rattle.model.specs.Laws.WellFormed.{WellFormed, alive-pos}
+use Rattle.model.proofs.Laws.Containers.{hidden-suspect, hidden-up, suspect-not-amb}
+use Rattle.model.proofs.Laws.Done.{Done, Stays, amb-alive, cap-alive, cap-not-amb, done-of, done-other, move-length, open-beside, outcome-done}
+use Rattle.model.proofs.Laws.Hiding.{move-hidden}
+use Rattle.model.proofs.Laws.Holding.{Holds}
+use Rattle.model.proofs.Laws.Sheet.{by-hidden, ext-at, move-gone, partner-shown, sheet-gone, sheet-hidden, sheet-length, sheet-move, sheet-parent, sheet-shown, sheet-wf, shown-parent, stays?}
+use Rattle.model.proofs.Laws.Updates.{dissolve-stays, place_other}
+use Rattle.model.proofs.Laws.Views.{fold-carry, view_laws}
+use Rattle.model.proofs.Laws.WellFormed.{WellFormed, alive-pos}
 use Rattle.model.specs.Observer.{sheet}
 use Rattle.model.specs.Records.{Capability, at, cap-in, cap-open, cap-out, capability, gone, is_ambient, parent_of}
 use Rattle.model.specs.Steps.{Outcome, decide, dissolve, effect, fit, done-by, move, outcome, outcome_by, place, ready, stands, step, refused-with}

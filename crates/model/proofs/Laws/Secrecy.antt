@@ -6,17 +6,17 @@ use Rattle.std.proofs.Math.Path.{ap, refl}
 use Rattle.model.specs.Analysis.{Permit, permit_all}
 use Rattle.model.specs.Calls.{check_answer, checking, comparing, entry, sheet_after, showing, verdict_answer}
 use Rattle.model.specs.Finite.{every}
-use Rattle.model.specs.Laws.Boundary.{SealedOff, environment-clear, sealed-closed, suspect-guarded}
-use Rattle.model.specs.Laws.Bytes.{records-encode, valid-wf}
-use Rattle.model.specs.Laws.Checks.{all_pass, answer-done, answer-value, passes}
-use Rattle.model.specs.Laws.Done.{list-valid, step-records, step-valid}
-use Rattle.model.specs.Laws.Holding.{Holds, holds-complete, holds-sound}
-use Rattle.model.specs.Laws.Lists.{after-steps, answer_at, given-steps, single-steps}
-use Rattle.model.specs.Laws.Sheet.{by-hidden, sheet-hidden}
-use Rattle.model.specs.Laws.Simulation.{same_outcome, sheet-step}
-use Rattle.model.specs.Laws.SubjectReduction.{step-holds}
-use Rattle.model.specs.Laws.WellFormed.{small}
-use Rattle.model.specs.Laws.Booleans.{and_right}
+use Rattle.model.proofs.Laws.Boundary.{SealedOff, environment-clear, sealed-closed, suspect-guarded}
+use Rattle.model.proofs.Laws.Bytes.{records-encode, valid-wf}
+use Rattle.model.proofs.Laws.Checks.{all_pass, answer-done, answer-value, passes}
+use Rattle.model.proofs.Laws.Done.{list-valid, step-records, step-valid}
+use Rattle.model.proofs.Laws.Holding.{Holds, holds-complete, holds-sound}
+use Rattle.model.proofs.Laws.Lists.{after-steps, answer_at, given-steps, single-steps}
+use Rattle.model.proofs.Laws.Sheet.{by-hidden, sheet-hidden}
+use Rattle.model.proofs.Laws.Simulation.{same_outcome, sheet-step}
+use Rattle.model.proofs.Laws.SubjectReduction.{step-holds}
+use Rattle.model.proofs.Laws.WellFormed.{small}
+use Rattle.model.proofs.Laws.Booleans.{and_right}
 use Rattle.model.specs.Noninterference.{Demand3, Event, EveryClient, HighGuarded, OnSheet, SuspectsGuarded, after, all_steps, before, given, step_at}
 use Rattle.model.specs.Observer.{sheet, sheet_of}
 use Rattle.model.specs.Records.{at, byte, encode, records}

@@ -12,9 +12,9 @@ use Rattle.std.proofs.Math.Path.{refl, subst}
 use Rattle.std.proofs.Math.Decide.{dec_le, ℕ_discrete}
 use native.Mathlib.Omega.{arith}
 use Rattle.model.specs.Finite.{one_if}
-use Rattle.model.specs.Laws.Done.{amb-alive, cap-alive, cap-not-amb, same-amb}
-use Rattle.model.specs.Laws.Forest.{one_if-le}
-use Rattle.model.specs.Laws.WellFormed.{Alive, SameBut, same_of, same-to}
+use Rattle.model.proofs.Laws.Done.{amb-alive, cap-alive, cap-not-amb, same-amb}
+use Rattle.model.proofs.Laws.Forest.{one_if-le}
+use Rattle.model.proofs.Laws.WellFormed.{Alive, SameBut, same_of, same-to}
 use Rattle.model.specs.Processes.{Congruent, Head, Process, Reads, Says, ◌·◌, ◌‖◌, ambient, associates, both, commutes, end, inside, nothing, one, cap, parallel, read, reflexive, says-ambient, says-cap, symmetric, times, transitive, unit}
 use Rattle.model.specs.Records.{Capability, at, capability, is_ambient, parent_of}
 use Rattle.model.specs.Steps.{to}

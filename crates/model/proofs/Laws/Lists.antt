@@ -8,7 +8,7 @@ use Rattle.std.proofs.Common.{◌∙◌, ap₂, sym, arith}
 use Rattle.std.proofs.Math.Path.{ap, refl}
 use Rattle.model.specs.Analysis.{Permit, permit_all}
 use Rattle.model.specs.Calls.{outcome_check, run_after, run_answers, running, step_after, step_answer, stepping}
-use Rattle.model.specs.Laws.Done.{list-valid, step-valid}
+use Rattle.model.proofs.Laws.Done.{list-valid, step-valid}
 use Rattle.model.specs.Noninterference.{Event, after, after_event, after_steps, all_steps, given, given_by, kept, script, single, steps_of}
 use Rattle.model.specs.Records.{records}
 use Rattle.model.specs.Refusals.{and_then, answer, content, need, number, pass, refuse}
@@ -20,12 +20,12 @@ module _ (permit : Permit) where
   pub list-append : (s : List ℕ) (ms ns : List Step) → after_list permit s (ms ++ ns) ≡ after_list permit (after_list permit s ms) ns
   unfolding after_list
   list-append s [] ns = refl
-  list-append s (m ∷ ms) ns = list-append _ ms ns
+  list-append s (m ∷ ms) ns = list-append (step_bytes permit s m.actor m.partner) ms ns
 
   outcomes-append : (s : List ℕ) (ms ns : List Step) → outcomes permit s (ms ++ ns) ≡ outcomes permit s ms ++ outcomes permit (after_list permit s ms) ns
   unfolding after_list outcomes
   outcomes-append s [] ns = refl
-  outcomes-append s (m ∷ ms) ns = ap (λ l. outcome permit (records s) m.actor m.partner ∷ l) (outcomes-append _ ms ns)
+  outcomes-append s (m ∷ ms) ns = ap (λ l. outcome permit (records s) m.actor m.partner ∷ l) (outcomes-append (step_bytes permit s m.actor m.partner) ms ns)
 
   map-append : (os ps : List Outcome) → map answer_of (os ++ ps) ≡ map answer_of os ++ map answer_of ps
   map-append [] ps = refl
@@ -100,4 +100,4 @@ given-steps (e ∷ es) s v =
 pub single-steps : (ms : List Step) (s : List ℕ) → validity s ≡ pass → after_steps s ms ≡ after_list permit_all s ms
 unfolding after_steps after_list
 single-steps [] s v = refl
-single-steps (m ∷ ms) s v = ap (λ x. after_steps x ms) (step-after s v m.actor m.partner) ∙ single-steps ms _ (step-valid permit_all s m.actor m.partner v)
+single-steps (m ∷ ms) s v = ap (λ x. after_steps x ms) (step-after s v m.actor m.partner) ∙ single-steps ms (step_bytes permit_all s m.actor m.partner) (step-valid permit_all s m.actor m.partner v)

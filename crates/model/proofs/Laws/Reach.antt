@@ -8,8 +8,8 @@ use Rattle.std.proofs.Math.Bool.{false, true}
 use Rattle.std.proofs.Math.Path.{ap, refl, subst, sym}
 use Rattle.std.proofs.Math.Nat.{zero-add}
 use Rattle.model.specs.Finite.{tabulate}
-use Rattle.model.specs.Laws.Booleans.{and_left, and_right, beq-eq, or_cases, or_right}
-use Rattle.model.specs.Laws.Finite.{get_d_tabulate, length-tabulate, some_of-make, some_of-use}
+use Rattle.model.proofs.Laws.Booleans.{and_left, and_right, beq-eq, or_cases, or_right}
+use Rattle.model.proofs.Laws.Finite.{get_d_tabulate, length-tabulate, some_of-make, some_of-use}
 use Rattle.model.specs.Verdicts.{alike, growing, grown, joins, marked, reached}
 
 -- how many are true

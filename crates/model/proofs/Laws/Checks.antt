@@ -8,7 +8,7 @@ use Rattle.std.specs.Prelude.{length, Bool, false, true, List, ◌≡◌}
 use Rattle.std.proofs.Math.Path.{ap, refl, sym}
 use Rattle.std.proofs.Math.Decide.{ℕ_discrete}
 use native.Mathlib.Omega.{arith}
-use Rattle.model.specs.Laws.Booleans.{and_left}
+use Rattle.model.proofs.Laws.Booleans.{and_left}
 use Rattle.model.specs.Numbers.{checked_as, refusal}
 use Rattle.model.specs.Refusals.{Check, and_then, answer, content, done, each_of, need, pass, refuse, refused}
 use Rattle.model.specs.Tables.{policy_right, table_right, table_sized}

@@ -11,15 +11,15 @@ use Rattle.std.proofs.Math.Path.{refl, subst, sym}
 use Rattle.std.proofs.Math.Decide.{dec_le}
 use Rattle.model.specs.Analysis.{Permit}
 use Rattle.model.specs.Climbing.{ambients, ambients_only, view}
-use Rattle.model.specs.Laws.Containers.{ambient-and, ambients-here}
-use Rattle.model.specs.Laws.Done.{Done, amb-alive, cap-alive, done-other, in-beside, in-holder, in-live, in-other, open-beside, out-above, out-holder, out-live, outcome-done}
-use Rattle.model.specs.Laws.Forest.{Depth, root, under}
-use Rattle.model.specs.Laws.Moves.{After, after-alike, after-beside, after_same, after-within, dissolve-before, enters-after, leaves_after, opens-after, turned}
-use Rattle.model.specs.Laws.Readings.{Once, Whole, ambient-said, beneath, child, conform, differ, focus, front_rest, front-whole, one-le, one-other, one-self, cap-said, read-alive, rest-once, says-alive}
-use Rattle.model.specs.Laws.Updates.{at-root}
-use Rattle.model.specs.Laws.Views.{view-on, view-top}
-use Rattle.model.specs.Laws.WellFormed.{Alive, WellFormed, alive-pos, place_same}
-use Rattle.model.specs.Laws.Booleans.{and_right}
+use Rattle.model.proofs.Laws.Containers.{ambient-and, ambients-here}
+use Rattle.model.proofs.Laws.Done.{Done, amb-alive, cap-alive, done-other, in-beside, in-holder, in-live, in-other, open-beside, out-above, out-holder, out-live, outcome-done}
+use Rattle.model.proofs.Laws.Forest.{Depth, root, under}
+use Rattle.model.proofs.Laws.Moves.{After, after-alike, after-beside, after_same, after-within, dissolve-before, enters-after, leaves_after, opens-after, turned}
+use Rattle.model.proofs.Laws.Readings.{Once, Whole, ambient-said, beneath, child, conform, differ, focus, front_rest, front-whole, one-le, one-other, one-self, cap-said, read-alive, rest-once, says-alive}
+use Rattle.model.proofs.Laws.Updates.{at-root}
+use Rattle.model.proofs.Laws.Views.{view-on, view-top}
+use Rattle.model.proofs.Laws.WellFormed.{Alive, WellFormed, alive-pos, place_same}
+use Rattle.model.proofs.Laws.Booleans.{and_right}
 use Rattle.model.specs.Processes.{Congruent, Means, Process, Reads, Reduces, Says, ◌‖◌, alike, ambient, associates, beside, both, enters, inside, leaves, one, opens, cap, parallel, read, reflexive, says-ambient, says-cap, symmetric, times, transitive, within}
 use Rattle.model.specs.Records.{Capability, at, cap-in, cap-open, cap-out, is_ambient, parent_of}
 use Rattle.model.specs.Steps.{decide, effect, fit, done-by, move, outcome, outcome_by, ready, stands, step}

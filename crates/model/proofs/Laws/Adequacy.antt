@@ -11,24 +11,24 @@ use Rattle.std.proofs.Math.Decide.{dec_le, ℕ_discrete}
 use native.Mathlib.Omega.{arith}
 use Rattle.model.specs.Analysis.{permit_all}
 use Rattle.model.specs.Calls.{outcome_check, step_after, step_answer, stepping, validate_answer}
-use Rattle.model.specs.Laws.Bytes.{valid-wf}
-use Rattle.model.specs.Laws.Checks.{answer-done, then-pass}
-use Rattle.model.specs.Laws.Done.{step-records}
-use Rattle.model.specs.Laws.Forest.{Depth, root, under}
-use Rattle.model.specs.Laws.Chains.{Chained, chain-list, perform-chain}
-use Rattle.model.specs.Laws.Lists.{after-steps, given-steps, step-after}
+use Rattle.model.proofs.Laws.Bytes.{valid-wf}
+use Rattle.model.proofs.Laws.Checks.{answer-done, then-pass}
+use Rattle.model.proofs.Laws.Done.{step-records}
+use Rattle.model.proofs.Laws.Forest.{Depth, root, under}
+use Rattle.model.proofs.Laws.Chains.{Chained, chain-list, perform-chain}
+use Rattle.model.proofs.Laws.Lists.{after-steps, given-steps, step-after}
 use Rattle.model.specs.Noninterference.{Event, after, all_steps, given, single, steps_of}
 use Rattle.model.specs.Scripts.{Step, after_list, answers_of}
-use Rattle.model.specs.Laws.Readings.{Downward, Front, Once, Whole, beneath, climbs, conform, focus, front-inner, one-le, one-other, one-self, read-alive, whole-downward}
-use Rattle.model.specs.Laws.Reductions.{means-whole, reduction-steps, step-reduces}
-use Rattle.model.specs.Laws.Updates.{at-root}
-use Rattle.model.specs.Laws.WellFormed.{Alive, WellFormed, alive-in, alive-pos, shape}
-use Rattle.model.specs.Laws.Booleans.{and_left}
+use Rattle.model.proofs.Laws.Readings.{Downward, Front, Once, Whole, beneath, climbs, conform, focus, front-inner, one-le, one-other, one-self, read-alive, whole-downward}
+use Rattle.model.proofs.Laws.Reductions.{means-whole, reduction-steps, step-reduces}
+use Rattle.model.proofs.Laws.Updates.{at-root}
+use Rattle.model.proofs.Laws.WellFormed.{Alive, WellFormed, alive-in, alive-pos}
+use Rattle.model.specs.Validity.{kind_right, shape, validity}
+use Rattle.model.proofs.Laws.Booleans.{and_left}
 use Rattle.model.specs.Processes.{Chain, Congruent, Demand2Steps, Head, Means, Process, Reads, Says, ◌·◌, ◌‖◌, ambient, associates, both, cap, commutes, done_in, end, inside, nothing, one, parallel, read, reflexive, says-ambient, says-cap, symmetric, times, transitive, unit}
 use Rattle.model.specs.Records.{Capability, at, cap-in, cap-open, cap-out, capability, count, is_ambient, parent_of, records}
 use Rattle.model.specs.Refusals.{and_then, answer, done, pass}
 use Rattle.model.specs.Steps.{Outcome, done-by, outcome, step, refused-with}
-use Rattle.model.specs.Validity.{kind_right, validity}
 use Rattle.model.specs.declared.Rec.{Rec}
 
 -- a record of a well-formed itinerary says a head

@@ -10,16 +10,16 @@ use Rattle.std.proofs.Math.Bool.{false, not, true}
 use Rattle.std.proofs.Math.Path.{refl, sym}
 use Rattle.std.proofs.Math.Decide.{dec_le}
 use Rattle.model.specs.Climbing.{reaches}
-use Rattle.model.specs.Laws.Checks.{each-make, each-pass, need-make, need-pass, need-refuse, then-make, then-pass, then-refuse}
-use Rattle.model.specs.Laws.Booleans.{and_left, and-make, and_right}
-use Rattle.model.specs.Laws.Finite.{get_d_tabulate, length-tabulate}
-use Rattle.model.specs.Laws.Forest.{Depth, depth_le, root, under_of}
-use Rattle.model.specs.Laws.Updates.{at-over, at-root}
-use Rattle.model.specs.Laws.Views.{depth-reaches, reaches-depth}
-use Rattle.model.specs.Laws.WellFormed.{Alive, WellFormed, alive-in, parent_in, shape, shape-labelled, shape-make, shape-named}
+use Rattle.model.proofs.Laws.Checks.{each-make, each-pass, need-make, need-pass, need-refuse, then-make, then-pass, then-refuse}
+use Rattle.model.proofs.Laws.Booleans.{and_left, and-make, and_right}
+use Rattle.model.proofs.Laws.Finite.{get_d_tabulate, length-tabulate}
+use Rattle.model.proofs.Laws.Forest.{Depth, depth_le, root, under_of}
+use Rattle.model.proofs.Laws.Updates.{at-over, at-root}
+use Rattle.model.proofs.Laws.Views.{depth-reaches, reaches-depth}
+use Rattle.model.proofs.Laws.WellFormed.{Alive, WellFormed, alive-in, parent_in, shape-labelled, shape-make, shape-named}
+use Rattle.model.specs.Validity.{blank, climb_check, form, gone_right, kind_right, label_by, label_right, name_by, name_right, parent_right, record_check, shape, size_right, spare_right, validity}
 use Rattle.model.specs.Records.{at, byte, byte_of, count, decode, encode, gone, nested, parent_of, records}
 use Rattle.model.specs.Refusals.{pass, refuse}
-use Rattle.model.specs.Validity.{blank, climb_check, form, gone_right, kind_right, label_by, label_right, name_by, name_right, parent_right, record_check, size_right, spare_right, validity}
 use Rattle.model.specs.declared.Rec.{Rec}
 
 pub rec-path : (r r' : Rec) → r.kind ≡ r'.kind → r.label ≡ r'.label → r.name ≡ r'.name → r.parent ≡ r'.parent → r ≡ r'

@@ -6,9 +6,9 @@ use Rattle.std.specs.Prelude.{◌+◌, ◌≤◌, ℕ, List, ◌≢◌, ◌≡�
 use Rattle.std.proofs.Common.{◌∙◌, subst, sym}
 use Rattle.std.proofs.Math.Path.{ap}
 use native.Mathlib.Omega.{arith}
-use Rattle.model.specs.Laws.Readings.{Counted, Once, climbs, conform, differ, keep, off, one-other, one_same, one-self, read_same, read-to, rehang, says-alive}
-use Rattle.model.specs.Laws.Updates.{dissolve-moved, dissolve-self, dissolve-stays, place_other, place-self}
-use Rattle.model.specs.Laws.WellFormed.{Alive, Out, alive-in, alive-pos, itself, moved, out, stays}
+use Rattle.model.proofs.Laws.Readings.{Counted, Once, climbs, conform, differ, keep, off, one-other, one_same, one-self, read_same, read-to, rehang, says-alive}
+use Rattle.model.proofs.Laws.Updates.{dissolve-moved, dissolve-self, dissolve-stays, place_other, place-self}
+use Rattle.model.proofs.Laws.WellFormed.{Alive, Out, alive-in, alive-pos, itself, moved, out, stays}
 use Rattle.model.specs.Processes.{Congruent, Head, Process, Reads, Says, ◌·◌, ◌‖◌, both, one, read, times}
 use Rattle.model.specs.Records.{at, parent_of}
 use Rattle.model.specs.Steps.{dissolve, place, to}

@@ -5,11 +5,11 @@ use Rattle.std.proofs.Math.Decide.{ℕ_discrete}
 use native.Mathlib.Omega.{arith}
 use Rattle.model.specs.Analysis.{Permit}
 use Rattle.model.specs.Finite.{tally}
-use Rattle.model.specs.Laws.Bytes.{valid-wf}
-use Rattle.model.specs.Laws.Done.{Done, amb-alive, cap-alive, done-other, in-live, in-place-wf, out-live, out-place-wf, outcome-done, partner-pos, step-records, step-valid}
-use Rattle.model.specs.Laws.Forest.{mark, tally-mark, tally-same}
-use Rattle.model.specs.Laws.Updates.{dissolve-length, dissolve-self, place-length}
-use Rattle.model.specs.Laws.WellFormed.{Alive, WellFormed, alive-in, alive-pos, dissolve-alive, dissolve-same, dissolve-wf, place-alive, place_same}
+use Rattle.model.proofs.Laws.Bytes.{valid-wf}
+use Rattle.model.proofs.Laws.Done.{Done, amb-alive, cap-alive, done-other, in-live, in-place-wf, out-live, out-place-wf, outcome-done, partner-pos, step-records, step-valid}
+use Rattle.model.proofs.Laws.Forest.{mark, tally-mark, tally-same}
+use Rattle.model.proofs.Laws.Updates.{dissolve-length, dissolve-self, place-length}
+use Rattle.model.proofs.Laws.WellFormed.{Alive, WellFormed, alive-in, alive-pos, dissolve-alive, dissolve-same, dissolve-wf, place-alive, place_same}
 use Rattle.model.specs.Records.{Capability, at, cap-in, cap-open, cap-out, parent_of, records}
 use Rattle.model.specs.Refusals.{pass}
 use Rattle.model.specs.Scripts.{Step, after_list, done_by, how_many, kind_of, not_gone, outcomes}

@@ -5,12 +5,12 @@ use Rattle.std.proofs.Common.{true≢false, ◌∙◌, ap, sym, arith}
 use Rattle.std.proofs.Math.Path.{refl}
 use Rattle.std.proofs.Math.Decide.{ℕ_discrete}
 use Rattle.model.specs.Climbing.{ambient_and, ambients, container, hidden, hides, hiding, is_suspect, labelled, nearest, nesting, ambients_only}
-use Rattle.model.specs.Laws.Done.{amb-alive}
-use Rattle.model.specs.Laws.Forest.{Depth, root, under}
-use Rattle.model.specs.Laws.Updates.{at-root}
-use Rattle.model.specs.Laws.Views.{view-on, view-top}
-use Rattle.model.specs.Laws.WellFormed.{SameBut, WellFormed, alive-pos, small}
-use Rattle.model.specs.Laws.Booleans.{and_left}
+use Rattle.model.proofs.Laws.Done.{amb-alive}
+use Rattle.model.proofs.Laws.Forest.{Depth, root, under}
+use Rattle.model.proofs.Laws.Updates.{at-root}
+use Rattle.model.proofs.Laws.Views.{view-on, view-top}
+use Rattle.model.proofs.Laws.WellFormed.{SameBut, WellFormed, alive-pos, small}
+use Rattle.model.proofs.Laws.Booleans.{and_left}
 use Rattle.model.specs.Records.{at, is_ambient, parent_of}
 use Rattle.model.specs.declared.Rec.{Rec}
 

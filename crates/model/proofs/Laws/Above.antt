@@ -3,11 +3,11 @@ use Rattle.std.specs.Prelude.{◌<◌, suc, zero, ℕ, Bool, false, true, List, 
 use Rattle.std.proofs.Common.{true≢false, ◌∙◌, ap, sym, arith}
 use Rattle.std.proofs.Math.Decide.{ℕ_discrete}
 use Rattle.model.specs.Climbing.{ambients, climb, hidden, is_suspect, nearest, nesting, ambients_only}
-use Rattle.model.specs.Laws.Containers.{ambient-and, ambients-here, hidden-root, hidden-suspect, hidden-up, nearest-amb, nearest-up}
-use Rattle.model.specs.Laws.Forest.{Depth, root, under}
-use Rattle.model.specs.Laws.Updates.{at-root}
-use Rattle.model.specs.Laws.Views.{view-on, view-top}
-use Rattle.model.specs.Laws.WellFormed.{WellFormed}
+use Rattle.model.proofs.Laws.Containers.{ambient-and, ambients-here, hidden-root, hidden-suspect, hidden-up, nearest-amb, nearest-up}
+use Rattle.model.proofs.Laws.Forest.{Depth, root, under}
+use Rattle.model.proofs.Laws.Updates.{at-root}
+use Rattle.model.proofs.Laws.Views.{view-on, view-top}
+use Rattle.model.proofs.Laws.WellFormed.{WellFormed}
 use Rattle.model.specs.Records.{at, is_ambient, parent_of}
 use Rattle.model.specs.declared.Rec.{Rec}
 

@@ -4,11 +4,11 @@ use borrow.Author.Tests.{eqb-false, eqb-true, not-true}
 use Rattle.std.proofs.Common.{true≢false, ◌∙◌, ap, subst, sym, arith}
 use Rattle.std.proofs.Math.Option.{Option, none, some}
 use Rattle.model.specs.Analysis.{Permit}
-use Rattle.model.specs.Laws.Bytes.{length-records, valid-passed, records-encode, size-le, valid-wf, wf-valid}
-use Rattle.model.specs.Laws.Forest.{Depth, above, under_of}
-use Rattle.model.specs.Laws.Updates.{dissolve-length, place-length}
-use Rattle.model.specs.Laws.WellFormed.{Alive, SameBut, WellFormed, alive-pos, dissolve-same, dissolve-wf, place-high, place-parent-other, place_same, place-wf}
-use Rattle.model.specs.Laws.Booleans.{and_left, and_right}
+use Rattle.model.proofs.Laws.Bytes.{length-records, valid-passed, records-encode, size-le, valid-wf, wf-valid}
+use Rattle.model.proofs.Laws.Forest.{Depth, above, under_of}
+use Rattle.model.proofs.Laws.Updates.{dissolve-length, place-length}
+use Rattle.model.proofs.Laws.WellFormed.{Alive, SameBut, WellFormed, alive-pos, dissolve-same, dissolve-wf, place-high, place-parent-other, place_same, place-wf}
+use Rattle.model.proofs.Laws.Booleans.{and_left, and_right}
 use Rattle.model.specs.Records.{Capability, at, cap-in, cap-open, cap-out, capability, count, is_ambient, nested, parent_of, records}
 use Rattle.model.specs.Refusals.{pass}
 use Rattle.model.specs.Scripts.{Step, after_list, kind_of}

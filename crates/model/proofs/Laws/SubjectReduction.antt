@@ -6,11 +6,11 @@ use Rattle.std.proofs.Math.Option.{some}
 use Rattle.std.proofs.Common.{◌∙◌, ap, sym}
 use Rattle.model.specs.Analysis.{Permit}
 use Rattle.model.specs.Climbing.{container, labelled, nearest, nesting}
-use Rattle.model.specs.Laws.Containers.{ambients-nearest, container-small, labelled-amb, labelled-other, labelled-same, nearest-amb}
-use Rattle.model.specs.Laws.Done.{Done, amb-alive, cap-alive, cap-nested, in-beside, in-holder, open-beside, out-above, out-holder, outcome-done}
-use Rattle.model.specs.Laws.Holding.{Holds, Infects, RowInside, Rule, Sub}
-use Rattle.model.specs.Laws.Transport.{Gives, Mono, Nest, Nesting, move-each, move-moved}
-use Rattle.model.specs.Laws.WellFormed.{WellFormed, amb-nested, small}
+use Rattle.model.proofs.Laws.Containers.{ambients-nearest, container-small, labelled-amb, labelled-other, labelled-same, nearest-amb}
+use Rattle.model.proofs.Laws.Done.{Done, amb-alive, cap-alive, cap-nested, in-beside, in-holder, open-beside, out-above, out-holder, outcome-done}
+use Rattle.model.proofs.Laws.Holding.{Holds, Infects, RowInside, Rule, Sub}
+use Rattle.model.proofs.Laws.Transport.{Gives, Mono, Nest, Nesting, move-each, move-moved}
+use Rattle.model.proofs.Laws.WellFormed.{WellFormed, amb-nested, small}
 use Rattle.model.specs.Records.{Capability, at, cap-in, cap-open, cap-out, capability, is_ambient, parent_of}
 use Rattle.model.specs.Steps.{Outcome, effect, done-by, move, outcome, ready, step, refused-with}
 use Rattle.model.specs.Tables.{Table}

@@ -8,12 +8,12 @@ use Rattle.std.proofs.Math.Path.{ap}
 use native.Mathlib.Omega.{arith}
 use Rattle.model.specs.Analysis.{Permit, holds}
 use Rattle.model.specs.Climbing.{container}
-use Rattle.model.specs.Laws.Booleans.{and-make, bool_iff}
-use Rattle.model.specs.Laws.Containers.{container-small}
-use Rattle.model.specs.Laws.Finite.{every-make}
-use Rattle.model.specs.Laws.Holding.{Holds, Infects, Inside, Rule, holds-complete, holds-sound}
-use Rattle.model.specs.Laws.Sets.{Narrow, bits-bytes, bytes_bits, bytes_same, least-has, least-inside, length-bytes, numeral-lt, numeral-set}
-use Rattle.model.specs.Laws.WellFormed.{WellFormed, amb-nested, label-pos, labels, named, small}
+use Rattle.model.proofs.Laws.Booleans.{and-make, bool_iff}
+use Rattle.model.proofs.Laws.Containers.{container-small}
+use Rattle.model.proofs.Laws.Finite.{every-make}
+use Rattle.model.proofs.Laws.Holding.{Holds, Infects, Inside, Rule, holds-complete, holds-sound}
+use Rattle.model.proofs.Laws.Sets.{Narrow, bits-bytes, bytes_bits, bytes_same, least-has, least-inside, length-bytes, numeral-lt, numeral-set}
+use Rattle.model.proofs.Laws.WellFormed.{WellFormed, amb-nested, label-pos, labels, named, small}
 use Rattle.model.specs.Least.{least, least_table, numeral}
 use Rattle.model.specs.Records.{Capability, at, cap-in, cap-open, cap-out, capability}
 use Rattle.model.specs.Tables.{bits, parts, place_h, place_i, place_s, table_right, table_sized, test_bit}

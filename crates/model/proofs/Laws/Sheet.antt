@@ -6,19 +6,19 @@ use Rattle.std.proofs.Math.Path.{ap}
 use Rattle.std.proofs.Math.Decide.{ℕ_discrete}
 use Rattle.model.specs.Analysis.{Permit}
 use Rattle.model.specs.Climbing.{hidden, is_suspect}
-use Rattle.model.specs.Laws.Containers.{hidden-cross, hidden-nearest, hidden-root, hidden-suspect, hidden-up, suspect-of}
-use Rattle.model.specs.Laws.Done.{Done, Stays, amb-alive, cap-alive, done-other, in-beside, in-holder, in-live, move-length, open-beside, out-above, out-live}
-use Rattle.model.specs.Laws.Forest.{Depth, root, under, under_of}
-use Rattle.model.specs.Laws.Hiding.{move-hidden}
-use Rattle.model.specs.Laws.Holding.{Holds}
-use Rattle.model.specs.Laws.SubjectReduction.{ruled}
-use Rattle.model.specs.Laws.Updates.{at-root, at-update-all, dissolve-moved, dissolve-self, dissolve-stays, length-update, place_other, place-self}
-use Rattle.model.specs.Laws.WellFormed.{Alive, Out, WellFormed, alive-in, alive-pos, itself, moved, out, shape, stays}
+use Rattle.model.proofs.Laws.Containers.{hidden-cross, hidden-nearest, hidden-root, hidden-suspect, hidden-up, suspect-of}
+use Rattle.model.proofs.Laws.Done.{Done, Stays, amb-alive, cap-alive, done-other, in-beside, in-holder, in-live, move-length, open-beside, out-above, out-live}
+use Rattle.model.proofs.Laws.Forest.{Depth, root, under, under_of}
+use Rattle.model.proofs.Laws.Hiding.{move-hidden}
+use Rattle.model.proofs.Laws.Holding.{Holds}
+use Rattle.model.proofs.Laws.SubjectReduction.{ruled}
+use Rattle.model.proofs.Laws.Updates.{at-root, at-update-all, dissolve-moved, dissolve-self, dissolve-stays, length-update, place_other, place-self}
+use Rattle.model.proofs.Laws.WellFormed.{Alive, Out, WellFormed, alive-in, alive-pos, itself, moved, out, stays}
+use Rattle.model.specs.Validity.{kind_right, label_by, label_right, name_by, name_right, shape}
 use Rattle.model.specs.Observer.{on_sheet, sheet}
 use Rattle.model.specs.Records.{Capability, at, cap-in, cap-open, cap-out, gone, nested, parent_of}
 use Rattle.model.specs.Steps.{dissolve, move, place}
 use Rattle.model.specs.Tables.{Table}
-use Rattle.model.specs.Validity.{kind_right, label_by, label_right, name_by, name_right}
 use Rattle.model.specs.declared.Rec.{Rec}
 
 -- two lists of records are equal by their records

@@ -3,12 +3,12 @@ use Rattle.std.specs.Prelude.{ℕ, Bool, false, true, List, ◌≡◌, refl}
 use Rattle.std.proofs.Common.{◌∙◌, ap, sym}
 use Rattle.model.specs.Analysis.{Permit}
 use Rattle.model.specs.Climbing.{hidden, hides, hiding}
-use Rattle.model.specs.Laws.Containers.{hidden-cross, hidden-nearest, hidden-suspect, hides-other, hides-same, hides-suspect, suspect-not-amb, suspect-of}
-use Rattle.model.specs.Laws.Done.{Done, Stays, in-beside, in-holder, open-beside, out-above, out-holder}
-use Rattle.model.specs.Laws.Holding.{Holds}
-use Rattle.model.specs.Laws.SubjectReduction.{ruled}
-use Rattle.model.specs.Laws.Transport.{Gives, Mono, Nest, Nesting, move-moved}
-use Rattle.model.specs.Laws.WellFormed.{WellFormed}
+use Rattle.model.proofs.Laws.Containers.{hidden-cross, hidden-nearest, hidden-suspect, hides-other, hides-same, hides-suspect, suspect-not-amb, suspect-of}
+use Rattle.model.proofs.Laws.Done.{Done, Stays, in-beside, in-holder, open-beside, out-above, out-holder}
+use Rattle.model.proofs.Laws.Holding.{Holds}
+use Rattle.model.proofs.Laws.SubjectReduction.{ruled}
+use Rattle.model.proofs.Laws.Transport.{Gives, Mono, Nest, Nesting, move-moved}
+use Rattle.model.proofs.Laws.WellFormed.{WellFormed}
 use Rattle.model.specs.Records.{Capability, at, cap-in, cap-open, cap-out, is_ambient, parent_of}
 use Rattle.model.specs.Steps.{move}
 use Rattle.model.specs.Tables.{Table}

@@ -7,10 +7,10 @@ use Rattle.std.proofs.Math.Path.{◌≡◌, refl, subst}
 use Rattle.model.specs.Analysis.{Permit, holds, only_if, record_holds, row_inside, rule_holds, rules_hold}
 use Rattle.model.specs.Climbing.{container}
 use Rattle.model.specs.Finite.{every}
-use Rattle.model.specs.Laws.Booleans.{and_left, and-make, and_right, only_if-make, only_if-use}
-use Rattle.model.specs.Laws.Done.{cap-nested}
-use Rattle.model.specs.Laws.Finite.{every-make, every-use}
-use Rattle.model.specs.Laws.WellFormed.{alive-in, amb-nested, nested-alive}
+use Rattle.model.proofs.Laws.Booleans.{and_left, and-make, and_right, only_if-make, only_if-use}
+use Rattle.model.proofs.Laws.Done.{cap-nested}
+use Rattle.model.proofs.Laws.Finite.{every-make, every-use}
+use Rattle.model.proofs.Laws.WellFormed.{alive-in, amb-nested, nested-alive}
 use Rattle.model.specs.Records.{Capability, at, cap-in, cap-open, cap-out, capability, is_ambient, nested}
 use Rattle.model.specs.Tables.{Table, is_high}
 use Rattle.model.specs.declared.Rec.{Rec}
