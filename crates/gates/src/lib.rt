@@ -1,4 +1,6 @@
 // The checks of a call as a value: a gate takes what the checks before it found, and one check more.
+#![tactic(auto)]
+
 ghost use Rattle.std.specs.Prelude.{◌≡◌};
 ghost use Rattle.model.specs.Numbers.{checked_as, performed_as};
 ghost use Rattle.model.specs.Refusals.{◌▸◌, answer, need};

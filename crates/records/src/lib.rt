@@ -1,4 +1,6 @@
 // Reading a record of an itinerary, and writing one.
+#![tactic(auto)]
+
 ghost use Rattle.std.specs.Prelude.{◌≡◌, ◌*◌, ◌<◌, ◌≤◌, length};
 ghost use Rattle.model.specs.Records.{byte_of, decode, gone, nested, word};
 ghost use Rattle.model.specs.Steps.{to};

@@ -1,0 +1,29 @@
+-- `records::put_record` meets its contract.
+use lib.ListN.{length-set}
+use native.Mathlib.Omega.{arith}
+use Rattle.records.specs.Written.{stores}
+use Rattle.records.proofs.put_record.Goals as goal
+
+pub bounds-it-at-2 : goal.bounds-it-at-2
+bounds-it-at-2 c = simp length-set (omega arith)
+
+pub bounds-it-at-3 : goal.bounds-it-at-3
+bounds-it-at-3 c = simp length-set (omega arith)
+
+pub bounds-it-at-4 : goal.bounds-it-at-4
+bounds-it-at-4 c = simp length-set (omega arith)
+
+pub bounds-it-at-5 : goal.bounds-it-at-5
+bounds-it-at-5 c = simp length-set (omega arith)
+
+pub bounds-it-at-6 : goal.bounds-it-at-6
+bounds-it-at-6 c = simp length-set (omega arith)
+
+pub bounds-it-at-7 : goal.bounds-it-at-7
+bounds-it-at-7 c = simp length-set (omega arith)
+
+pub bounds-it-at-8 : goal.bounds-it-at-8
+bounds-it-at-8 c = simp length-set (omega arith)
+
+pub returns : goal.returns
+returns c = stores _ _ _ c.requires.0 c.requires.1
