@@ -7,7 +7,7 @@ ghost use Rattle.io.specs.Counts.{IsPrefixLen};
 use libc::STDOUT_FILENO;
 
 // How many bytes of a file stand in its buffer, and whether it has more.
-#[derive(Drop)]
+#[derive(Clone, Copy)]
 pub struct Loaded {
     pub len: usize,
     pub more: bool,
@@ -53,7 +53,7 @@ pub fn load_most(path: &[u8], buffer: &mut [u8], max: usize) -> usize
 }
 
 // How many bytes of a file are to be lent, none where it can't be read.
-#[derive(Drop)]
+#[derive(Clone, Copy)]
 pub struct FileRead {
     pub good: bool,
     pub len: usize,

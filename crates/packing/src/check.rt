@@ -6,7 +6,7 @@ ghost use Rattle.packing.specs.Packing.{check_result};
 use model::Performed;
 
 #[repr(C)]
-#[derive(Drop)]
+#[derive(Clone, Copy)]
 pub struct HubCheckResult {
     pub number: u32,
     pub record: u32,

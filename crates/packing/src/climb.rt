@@ -6,7 +6,7 @@ ghost use Rattle.packing.specs.Packing.{climb_result};
 use model::Climbed;
 
 #[repr(C)]
-#[derive(Drop)]
+#[derive(Clone, Copy)]
 pub struct HubClimbResult {
     pub number: u32,
     pub record: u32,

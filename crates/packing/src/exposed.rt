@@ -6,7 +6,7 @@ ghost use Rattle.packing.specs.Packing.{exposed_result};
 use model::Exposure;
 
 #[repr(C)]
-#[derive(Drop)]
+#[derive(Clone, Copy)]
 pub struct HubExposedResult {
     pub number: u32,
     pub record: u32,

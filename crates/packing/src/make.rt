@@ -6,7 +6,7 @@ ghost use Rattle.packing.specs.Packing.{make_result};
 use model::Made;
 
 #[repr(C)]
-#[derive(Drop)]
+#[derive(Clone, Copy)]
 pub struct HubMakeResult {
     pub number: u32,
     pub record: u32,

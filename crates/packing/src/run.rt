@@ -6,7 +6,7 @@ ghost use Rattle.packing.specs.Packing.{run_result};
 use model::Ran;
 
 #[repr(C)]
-#[derive(Drop)]
+#[derive(Clone, Copy)]
 pub struct HubRunResult {
     pub number: u32,
     pub record: u32,

@@ -7,7 +7,7 @@ use crate::verdicts;
 use model::Screened;
 
 #[repr(C)]
-#[derive(Drop)]
+#[derive(Clone, Copy)]
 pub struct HubScreenResult {
     pub number: u32,
     pub record: u32,

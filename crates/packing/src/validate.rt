@@ -6,7 +6,7 @@ ghost use Rattle.packing.specs.Packing.{validate_result};
 use model::Validated;
 
 #[repr(C)]
-#[derive(Drop)]
+#[derive(Clone, Copy)]
 pub struct HubValidateResult {
     pub number: u32,
     pub record: u32,

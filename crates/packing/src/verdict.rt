@@ -7,7 +7,7 @@ use crate::verdicts;
 use model::Judged;
 
 #[repr(C)]
-#[derive(Drop)]
+#[derive(Clone, Copy)]
 pub struct HubVerdictResult {
     pub number: u32,
     pub record: u32,

@@ -5,7 +5,7 @@ ghost use Rattle.replay_compare.specs.Comparing.{over};
 ghost use Rattle.replay_buffers.specs.Storing.{bytes_at, bytes_of, empty_room, number, raised, stored, turned};
 
 // A buffer's place in the memory: where it starts, how many bytes it may have, and how many it has.
-#[derive(Drop)]
+#[derive(Clone, Copy)]
 pub struct Room {
     pub start: usize,
     pub size: usize,

@@ -15,7 +15,7 @@ const CALLS: u8 = 16;
 const NONE: usize = 4294967296;
 
 // A call with its arguments and what is wanted of it, and the rooms of the buffers by their numbers.
-#[derive(Drop)]
+#[derive(Clone, Copy)]
 pub struct Case {
     pub call: u8,
     pub x: u16,
@@ -57,7 +57,7 @@ fn next_number(fd: i32) -> usize {
 
 // What a command begins with: its code, a byte and a number, which are a buffer and a count, or of a call how many
 // values it gives and both arguments.
-#[derive(Drop)]
+#[derive(Clone, Copy)]
 struct Head {
     code: u8,
     small: u8,
@@ -290,7 +290,7 @@ fn count(n: u32) {
 }
 
 // What a replay came to: the tally, and whether what followed in the file was no case.
-#[derive(Drop)]
+#[derive(Clone, Copy)]
 pub struct Ended {
     pub tally: Tally,
     pub fault: bool,

@@ -39,7 +39,7 @@ pub fn same(a: &[u8], b: &[u8]) -> bool
 }
 
 // An answer: number, the record at which (0 for none), and values.
-#[derive(Drop)]
+#[derive(Clone, Copy)]
 pub struct Result {
     pub number: u8,
     pub at: u16,
@@ -106,7 +106,7 @@ pub fn as_wanted(got: Result, want: Result, held: &[u8], wants: &[u8]) -> bool
 }
 
 // How many calls were made, and how many gave something else than the file says.
-#[derive(Drop)]
+#[derive(Clone, Copy)]
 pub struct Tally {
     pub calls: u32,
     pub differ: u32,

@@ -12,7 +12,7 @@ use model::{Capability, Outcome, Rec};
 
 // A step that is decided. The actor goes, and so does opened, which is the actor again where nothing is opened; the
 // children of both go to home; mover, which is 0 where none moves, goes to dest.
-#[derive(Drop)]
+#[derive(Clone, Copy)]
 struct Move {
     pub actor: u16,
     pub home: u16,

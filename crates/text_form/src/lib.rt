@@ -3,7 +3,7 @@
 use model::Refusal;
 
 // A line of the text form: how far it is indented, and the record's kind, label and name.
-#[derive(Drop)]
+#[derive(Clone, Copy)]
 pub struct Line {
     pub depth: usize,
     pub kind: u8,
@@ -12,35 +12,35 @@ pub struct Line {
 }
 
 // A decimal number and how many bytes it takes, 0 where none stands.
-#[derive(Drop)]
+#[derive(Clone, Copy)]
 pub struct Decimal {
     pub value: u16,
     pub width: usize,
 }
 
 // What reading a line finds: the line and how many bytes are left after it, or the number of its fault.
-#[derive(Drop)]
+#[derive(Clone, Copy)]
 pub enum LineRead {
     Good(Line, usize),
     Bad(u8),
 }
 
 // The answer of the reader: how many records it wrote, or the lowest line at fault and the cause's number.
-#[derive(Drop)]
+#[derive(Clone, Copy)]
 pub enum TextRead {
     Records(u16),
     Fault { line: u16, cause: u8 },
 }
 
 // A record met on a walk, and the depth it stands at; number 0 where there is none.
-#[derive(Drop)]
+#[derive(Clone, Copy)]
 pub struct Visit {
     pub number: u16,
     pub depth: usize,
 }
 
 // The answer of the writers: the text's length, or how much room it needs, or the itinerary's refusal.
-#[derive(Drop)]
+#[derive(Clone, Copy)]
 pub enum TextWritten {
     Length(usize),
     NoRoom(usize),

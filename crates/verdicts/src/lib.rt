@@ -9,7 +9,7 @@ ghost use Rattle.verdicts.specs.Reach.{Highs, NoLabel, Origin, RowReached, Until
 use model::Verdict;
 
 // The lowest label that a search finds, if any.
-#[derive(Drop)]
+#[derive(Clone, Copy)]
 pub enum Found {
     At(u8),
     Nothing,

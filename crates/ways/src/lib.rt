@@ -4,7 +4,7 @@ ghost use Rattle.std.specs.Prelude.{◌≡◌, ◌≤◌};
 ghost use Rattle.ways.specs.Ways.{Passable, Inside, Leads, StartsAt};
 
 // The numbers of a way, from the record it starts at upwards, how many there are, and the number above the last.
-#[derive(Drop)]
+#[derive(Clone, Copy)]
 pub struct Way {
     pub numbers: [u16; 32],
     pub len: usize,
