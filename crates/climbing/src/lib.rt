@@ -1,4 +1,6 @@
 // Climbing past ambients: whether all records above are ambients.
+#![tactic(auto)]
+
 ghost use Rattle.std.specs.Prelude.{◌≡◌, ◌%◌, length};
 ghost use Rattle.model.specs.Climbing.{ambients_only, view_from};
 ghost use Rattle.model.specs.Records.{records};

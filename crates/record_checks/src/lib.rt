@@ -1,4 +1,6 @@
 // Refusals 2 to 5: what makes each record right by itself and by its parent's place.
+#![tactic(auto)]
+
 ghost use Rattle.std.specs.Prelude.{◌≡◌};
 ghost use Rattle.model.specs.Refusals.{each_of};
 ghost use Rattle.model.specs.Validity.{gone_right, label_right, name_right, parent_right, record_check, spare_right};

@@ -1,4 +1,6 @@
 // Steps of the ambient calculus on a valid itinerary, in place.
+#![tactic(auto)]
+
 ghost use Rattle.std.specs.Prelude.{◌≡◌, ◌%◌, ◌*◌, ◌≤◌, length};
 ghost use Rattle.model.specs.Analysis.{permit_all};
 ghost use Rattle.model.specs.Records.{decode, encode, records};

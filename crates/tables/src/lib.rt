@@ -1,4 +1,6 @@
 // Reading a policy and a table: refusals 7 and 8, single bits, rows.
+#![tactic(auto)]
+
 ghost use Rattle.std.specs.Prelude.{◌≡◌, true, not, ◌+◌, ◌*◌, ◌/◌, ◌<◌, length};
 ghost use Rattle.model.specs.Finite.{every};
 ghost use Rattle.model.specs.Numbers.{checked_as};

@@ -1,4 +1,6 @@
 // Refusals 1 to 6: what makes bytes an itinerary.
+#![tactic(auto)]
+
 ghost use Rattle.std.specs.Prelude.{true, ◌≡◌, ◌≤◌};
 ghost use Rattle.model.specs.Records.{count, records};
 ghost use Rattle.model.specs.Climbing.{reaches};

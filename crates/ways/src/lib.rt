@@ -1,5 +1,7 @@
 // The way up from a record, up to 32 numbers at a time: what the climbs of validation, of containers and of the sheet
 // share. A climb notes what it finds for each number it passes; the way ends below a number that has its note.
+#![tactic(auto)]
+
 ghost use Rattle.std.specs.Prelude.{◌≡◌, ◌≤◌};
 ghost use Rattle.ways.specs.Ways.{Passable, Inside, Leads, StartsAt};
 

@@ -1,0 +1,7 @@
+-- `tables::sized_gate` meets its contract.
+use Rattle.model.specs.Tables.{table_sized}
+use Rattle.tables.proofs.sized_gate.Goals as goal
+
+pub returns : goal.returns
+unfolding table_sized
+returns c = c.need.ensures
