@@ -1,5 +1,7 @@
 // What stands above each record, found by one climb: the label of the nearest ambient, and the number of the nearest boundary
 // ambient (`enclosing` of the model).
+#![tactic(auto)]
+
 ghost use Rattle.std.specs.Prelude.{◌≡◌, ◌<◌, ◌≤◌, length};
 ghost use Rattle.ways.specs.Ways.{Near};
 ghost use Rattle.enclosures.specs.Notes.{Enclosing, Notable, Noted, enclosed_by, label_notes, boundary_notes};

@@ -1,4 +1,6 @@
 // Running a script on a valid itinerary.
+#![tactic(auto)]
+
 ghost use Rattle.std.specs.Prelude.{◌≡◌, ◌%◌, ◌+◌, ◌<◌, ◌≤◌, true, length};
 ghost use Rattle.model.specs.Analysis.{permit_all};
 ghost use Rattle.model.specs.Finite.{one_if, unequal};

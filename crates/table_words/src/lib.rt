@@ -1,4 +1,6 @@
 // Bytes as words of 64 bits, and back; and the operations on words that the rules of a table are made of.
+#![tactic(auto)]
+
 ghost use Rattle.std.specs.Prelude.{◌≡◌, ◌+◌, ◌*◌, ◌<◌, ◌≤◌, length, take, drop};
 ghost use Rattle.model.specs.Tables.{bit_at, bits, test_bit};
 ghost use Rattle.table_words.specs.Adds.{Adds};

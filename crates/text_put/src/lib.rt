@@ -1,4 +1,6 @@
 // Bytes, numbers and fields put at a place of a lent text, for the programs' lines.
+#![tactic(auto)]
+
 ghost use Rattle.std.specs.Prelude.{◌+◌, ◌≤◌, length, [], ◌++◌, ◌∷◌};
 ghost use Rattle.model.specs.Listing.{digits_in, field, last_field};
 ghost use Rattle.text_put.specs.Puts.{Put};
@@ -8,7 +10,9 @@ pub fn put(text: &mut [u8], at: usize, word: &[u8]) -> usize
     requires { at + length word.now ≤ length text.old }
     ensures { Put text.old at word.now text.new result }
 {
-    at + bytes::copy(word, &mut text[at..])
+    let end = at + word.len();
+    text[at..end].copy_from_slice(word);
+    end
 }
 
 // Puts one byte.

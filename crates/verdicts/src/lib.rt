@@ -1,4 +1,6 @@
 // The labels an observer may reach from the environment, and the verdict on a table that holds.
+#![tactic(auto)]
+
 ghost use Rattle.std.specs.Prelude.{◌≡◌, ◌&&◌, not, ◌<◌, length};
 ghost use Rattle.model.specs.Finite.{lowest, some_of};
 ghost use Rattle.model.specs.Tables.{bits, is_high, parts, suspects};
