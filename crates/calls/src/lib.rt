@@ -109,9 +109,9 @@ pub fn exposed(it: &[u8], policy: &[u8], table: &[u8]) -> Exposure
 
 // The row of a label as that very part of the lent table; the empty part for any other label or length.
 pub fn row<'a>(table: &'a [u8], label: u8) -> &'a [u8]
-    ensures result_value { result.now ≡ row_of table.now label }
-    ensures ref_ptr_value { result.ref_ptr.0 ≡ table.entry.ref_ptr.0 }
-    ensures ref_ptr_value_2 { result.ref_ptr.1 ≡ table.entry.ref_ptr.1 + row_start table.now label }
+    ensures content { result.now ≡ row_of table.now label }
+    ensures block { result.ref_ptr.0 ≡ table.entry.ref_ptr.0 }
+    ensures place { result.ref_ptr.1 ≡ table.entry.ref_ptr.1 + row_start table.now label }
 {
     answers::row(table, label)
 }

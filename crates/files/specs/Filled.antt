@@ -1,7 +1,7 @@
 -- How much of a file stands in a buffer.
 use Rattle.std.specs.Prelude.{ℕ, length, true, List, ◌≡◌}
 use Rattle.files.specs.declared.Loaded.{Loaded}
-use Rattle.io.specs.Counts.{IsPrefixLen}
+use Rattle.files.specs.Counts.{IsPrefixLen}
 
 -- as many bytes as are counted stand there, and a file with more than that fills the buffer
 pub record Filled (l : Loaded) (buffer : List ℕ) : Type 0 where

@@ -1,3 +1,4 @@
 -- What the contracts cite.
+pub mod Counts
 pub mod Filled
 pub mod Laws

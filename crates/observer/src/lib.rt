@@ -1,4 +1,6 @@
 // The observer's sheet.
+#![tactic(auto)]
+
 ghost use Rattle.std.specs.Prelude.{◌≡◌, ◌<◌, ◌≤◌, length};
 ghost use Rattle.model.specs.Calls.{sheet_after, sheet_answer};
 ghost use Rattle.model.specs.Climbing.{hidden, is_suspect};
@@ -110,6 +112,6 @@ pub fn write_sheet(it: &[u8], table: &[u8], sheet: &mut [u8])
 {
     let mut marks = [0u8; 1025];
     marks[0] = 1;
-    bytes::copy(it, sheet);
+    sheet.copy_from_slice(it);
     hide(it, table, &mut marks, sheet);
 }

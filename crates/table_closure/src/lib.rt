@@ -16,7 +16,7 @@ ghost use Rattle.table_closure.specs.Sweeps.{Owed, Swept};
 fn sweep(w: &mut [u64], movers: &[u64], dirty_before: u64) -> u64
     requires w_len { length w.old ≡ 193 }
     requires movers_len { length movers.now ≡ 192 }
-    requires by_index { (q : ℕ) → q < 64 → Owed movers.now w.old dirty_before q }
+    requires owed { (q : ℕ) → q < 64 → Owed movers.now w.old dirty_before q }
     ensures { Swept movers.now w.old w.new result }
 {
     let mut dirty: u64 = 0;
@@ -66,7 +66,7 @@ fn close_nesting(w: &mut [u64], partners: &[u64], movers: &mut [u64])
     requires w_len { length w.old ≡ 193 }
     requires partners_len { length partners.now ≡ 192 }
     requires movers_len { length movers.old ≡ 192 }
-    requires by_index { (i : ℕ) → get_or movers.old i 0 ≡ 0 }
+    requires cleared { (i : ℕ) → get_or movers.old i 0 ≡ 0 }
     ensures { NestingGrown partners.now movers.new (Bits w.old) (Bits w.new) }
 {
     let mut count = count_capabilities(w);

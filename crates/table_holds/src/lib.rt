@@ -31,7 +31,7 @@ fn highs_hold(policy: &[u8], table: &[u8]) -> bool
 
 // Whether a record may stand in its container and, if an ambient, bear its name.
 fn stands(r: Rec, table: &[u8], container: u8) -> bool
-    requires r_value { shape r ≡ true }
+    requires shaped { shape r ≡ true }
     requires table_len { length table.now ≡ 1544 }
     requires container_bound { container < 64 }
     ensures { result ≡ stood (parts (bits table.now)) container r }
@@ -49,7 +49,7 @@ fn stands(r: Rec, table: &[u8], container: u8) -> bool
 // Whether every ambient and capability may stand where it stands and every ambient bear its name, with the nearest labels
 // from each number on upwards.
 fn nesting_holds_by_labels(it: &[u8], table: &[u8], labels: &[u8]) -> bool
-    requires it_value { validity it.now ≡ pass }
+    requires valid { validity it.now ≡ pass }
     requires table_len { length table.now ≡ 1544 }
     requires nearests { Nearests it.now labels.now }
     ensures { result ≡ nesting_holds (records it.now) (parts (bits table.now)) }
@@ -70,7 +70,7 @@ fn nesting_holds_by_labels(it: &[u8], table: &[u8], labels: &[u8]) -> bool
 
 // Whether every ambient and capability may stand where it stands and every ambient bear its name.
 fn nesting_holds(it: &[u8], policy: &[u8], table: &[u8]) -> bool
-    requires it_value { validity it.now ≡ pass }
+    requires valid { validity it.now ≡ pass }
     requires policy_len { length policy.now ≡ 64 }
     requires table_len { length table.now ≡ 1544 }
     ensures { result ≡ nesting_holds (records it.now) (parts (bits table.now)) }
@@ -84,7 +84,7 @@ fn nesting_holds(it: &[u8], policy: &[u8], table: &[u8]) -> bool
 
 // Whether the table holds.
 pub fn holds(it: &[u8], policy: &[u8], table: &[u8]) -> bool
-    requires it_value { validity it.now ≡ pass }
+    requires valid { validity it.now ≡ pass }
     requires policy_len { length policy.now ≡ 64 }
     requires table_len { length table.now ≡ 1544 }
     ensures { result ≡ holds permit_all policy.now (records it.now) (parts (bits table.now)) }

@@ -10,7 +10,7 @@ ghost use Rattle.table_least.specs.Least.{LeastClosed};
 
 // Closes a table under the rules of the itinerary's capabilities.
 fn close_table(it: &[u8], table: &mut [u8])
-    requires it_value { validity it.now ≡ pass }
+    requires valid { validity it.now ≡ pass }
     requires table_len { length table.old ≡ 1544 }
     ensures { LeastClosed (records it.now) (bits table.old) (bits table.new) }
 {
@@ -39,10 +39,10 @@ fn count_ones(table: &[u8]) -> u16
 // Writes the least table that holds, and counts its bits.
 pub fn write_least(it: &[u8], policy: &[u8], table: &mut [u8]) -> u16
     requires table_len { length table.old ≡ 1544 }
-    requires it_value { validity it.now ≡ pass }
+    requires valid { validity it.now ≡ pass }
     requires policy_len { length policy.now ≡ 64 }
-    ensures table_after { table.new ≡ least_table permit_all policy.now (records it.now) }
-    ensures value { result ≡ total table.new }
+    ensures made { table.new ≡ least_table permit_all policy.now (records it.now) }
+    ensures counted { result ≡ total table.new }
 {
     table_seed::seed(it, policy, table);
     close_table(it, table);

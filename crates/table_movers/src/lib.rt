@@ -1,6 +1,8 @@
 // The movers of a table: by kind and partner, the labels in which some capability of this kind may stand that targets a
 // name of the partner: 192 words, as the partners. With them each rule is a few word operations on two rows of I. A table is
 // 193 words.
+#![tactic(auto)]
+
 ghost use Rattle.std.specs.Prelude.{◌≡◌, length};
 ghost use Rattle.table_movers.specs.Folds.{MoversFolded};
 ghost use Rattle.table_movers.specs.Movers.{Movers, OnlyMovers};

@@ -16,7 +16,7 @@ fn is_capability(r: Rec) -> bool
 
 // Adds the labels that bear the name which a capability targets to the word of its kind and label.
 fn add_partners(r: Rec, bearers: &[u64], partners: &mut [u64])
-    requires r_value { shape r ≡ true }
+    requires shaped { shape r ≡ true }
     requires bearers_len { length bearers.now ≡ 64 }
     requires partners_len { length partners.old ≡ 192 }
     ensures { PartnersAdded (borne bearers.now) r partners.old partners.new }
@@ -31,10 +31,10 @@ fn add_partners(r: Rec, bearers: &[u64], partners: &mut [u64])
 
 // The partners of all capabilities, by the bearers of each name.
 fn add_all_partners(it: &[u8], bearers: &[u64], partners: &mut [u64])
-    requires it_value { validity it.now ≡ pass }
+    requires valid { validity it.now ≡ pass }
     requires bearers_len { length bearers.now ≡ 64 }
     requires partners_len { length partners.old ≡ 192 }
-    requires by_index { (i : ℕ) → get_or partners.old i 0 ≡ 0 }
+    requires cleared { (i : ℕ) → get_or partners.old i 0 ≡ 0 }
     ensures { Partners (records it.now) (borne bearers.now) (count it.now) partners.new }
 {
     let n = (it.len() / 8) as u16;
@@ -48,10 +48,10 @@ fn add_all_partners(it: &[u8], bearers: &[u64], partners: &mut [u64])
 
 // The partners of all capabilities, by the names in H of the table w.
 pub fn partners_of(it: &[u8], w: &[u64], partners: &mut [u64])
-    requires it_value { validity it.now ≡ pass }
+    requires valid { validity it.now ≡ pass }
     requires w_len { length w.now ≡ 193 }
     requires partners_len { length partners.old ≡ 192 }
-    requires by_index { (i : ℕ) → get_or partners.old i 0 ≡ 0 }
+    requires cleared { (i : ℕ) → get_or partners.old i 0 ≡ 0 }
     ensures { Partners (records it.now) (in_h w.now) (count it.now) partners.new }
 {
     let mut bearers = [0u64; table_words::BITS];

@@ -1,5 +1,7 @@
 // The rules of one row of I, by movers: each is a few word operations on two rows.
 // The table is 193 words: row a of I in words 2 a and 2 a + 1, row a of H in word 128 + a, S in word 192; movers are 192 words.
+#![tactic(auto)]
+
 ghost use Rattle.std.specs.Prelude.{◌≡◌, ◌<◌, length};
 ghost use Rattle.tables.specs.Grow.{Grown};
 ghost use Rattle.table_words.specs.BitSets.{Bits, WordHas};

@@ -1,5 +1,7 @@
 // Whether the rules of an itinerary's capabilities hold in a table: by its movers, pair by pair; in and out on the table's
 // words, open by row inclusion on parts of the lent table. A table has 1,544 bytes or 193 words; movers are 192 words.
+#![tactic(auto)]
+
 ghost use Rattle.std.specs.Prelude.{◌≡◌, ℕ, ◌<◌, length};
 ghost use Rattle.model.specs.Records.{records};
 ghost use Rattle.model.specs.Refusals.{pass};
@@ -64,7 +66,7 @@ fn open_holds(table: &[u8], p: usize, b: usize) -> bool
 fn pair_holds(table: &[u8], w: &[u64], movers: &[u64], p: usize, b: usize) -> bool
     requires table_len { length table.now ≡ 1544 }
     requires w_len { length w.now ≡ 193 }
-    requires w_value { Bits w.now ≡ bits table.now }
+    requires same_bits { Bits w.now ≡ bits table.now }
     requires movers_len { length movers.now ≡ 192 }
     requires p_bound { p < 64 }
     requires b_bound { b < 64 }
@@ -83,7 +85,7 @@ fn pair_holds(table: &[u8], w: &[u64], movers: &[u64], p: usize, b: usize) -> bo
 fn row_holds(table: &[u8], w: &[u64], movers: &[u64], p: usize) -> bool
     requires table_len { length table.now ≡ 1544 }
     requires w_len { length w.now ≡ 193 }
-    requires w_value { Bits w.now ≡ bits table.now }
+    requires same_bits { Bits w.now ≡ bits table.now }
     requires movers_len { length movers.now ≡ 192 }
     requires p_bound { p < 64 }
     ensures { Decides result (RowHeld movers.now (Bits w.now) p) }
@@ -103,7 +105,7 @@ fn row_holds(table: &[u8], w: &[u64], movers: &[u64], p: usize) -> bool
 fn rows_hold(table: &[u8], w: &[u64], movers: &[u64]) -> bool
     requires table_len { length table.now ≡ 1544 }
     requires w_len { length w.now ≡ 193 }
-    requires w_value { Bits w.now ≡ bits table.now }
+    requires same_bits { Bits w.now ≡ bits table.now }
     requires movers_len { length movers.now ≡ 192 }
     ensures { Decides result ((p : ℕ) → p < 64 → RowHeld movers.now (Bits w.now) p) }
 {
@@ -119,7 +121,7 @@ fn rows_hold(table: &[u8], w: &[u64], movers: &[u64]) -> bool
 
 // Whether the rules of all capabilities hold.
 pub fn rules_hold(it: &[u8], table: &[u8]) -> bool
-    requires it_value { validity it.now ≡ pass }
+    requires valid { validity it.now ≡ pass }
     requires table_len { length table.now ≡ 1544 }
     ensures { Decides result (AllRules (records it.now) (bits table.now)) }
 {

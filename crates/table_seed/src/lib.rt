@@ -32,7 +32,7 @@ fn clear(table: &mut [u8])
 
 // Sets the bits of H that the itinerary asks for, in the names part of the table.
 fn fill_names(it: &[u8], names: &mut [u8])
-    requires it_value { validity it.now ≡ pass }
+    requires valid { validity it.now ≡ pass }
     requires names_len { length names.old ≡ 512 }
     ensures { CellsSet (bearing (records it.now)) (name_cell (records it.now)) (count it.now) (bits names.old) (bits names.new) }
 {
@@ -64,7 +64,7 @@ fn fill_high(policy: &[u8], table: &mut [u8])
 
 // Sets the bits of I that the nesting asks for, with the nearest labels from each number on upwards.
 fn fill_nesting_by_labels(it: &[u8], table: &mut [u8], labels: &[u8])
-    requires it_value { validity it.now ≡ pass }
+    requires valid { validity it.now ≡ pass }
     requires table_len { length table.old ≡ 1544 }
     requires nearests { Nearests it.now labels.now }
     ensures { CellsSet (standing (records it.now)) (nesting_cell (records it.now)) (count it.now) (bits table.old) (bits table.new) }
@@ -83,7 +83,7 @@ fn fill_nesting_by_labels(it: &[u8], table: &mut [u8], labels: &[u8])
 
 // Sets the bits of I that the itinerary's nesting asks for.
 fn fill_nesting(it: &[u8], policy: &[u8], table: &mut [u8])
-    requires it_value { validity it.now ≡ pass }
+    requires valid { validity it.now ≡ pass }
     requires policy_len { length policy.now ≡ 64 }
     requires table_len { length table.old ≡ 1544 }
     ensures { CellsSet (standing (records it.now)) (nesting_cell (records it.now)) (count it.now) (bits table.old) (bits table.new) }
@@ -97,7 +97,7 @@ fn fill_nesting(it: &[u8], policy: &[u8], table: &mut [u8])
 
 // Writes the table with what the itinerary and the policy ask for by themselves.
 pub fn seed(it: &[u8], policy: &[u8], table: &mut [u8])
-    requires it_value { validity it.now ≡ pass }
+    requires valid { validity it.now ≡ pass }
     requires policy_len { length policy.now ≡ 64 }
     requires table_len { length table.old ≡ 1544 }
     ensures { Seeded (records it.now) policy.now (bits table.new) }

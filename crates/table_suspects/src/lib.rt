@@ -33,7 +33,7 @@ pub fn close_suspects(w: &mut [u64], movers: &[u64])
     requires w_len { length w.old ≡ 193 }
     requires movers_len { length movers.now ≡ 192 }
     ensures smallest { Smallest (SuspectsClosed movers.now) (Bits w.old) (Bits w.new) }
-    ensures by_index { (i : ℕ) → i < 192 → get_or w.new i 0 ≡ get_or w.old i 0 }
+    ensures rows_kept { (i : ℕ) → i < 192 → get_or w.new i 0 ≡ get_or w.old i 0 }
 {
     let mut suspects = w[table_words::SUSPECTS];
     let mut unseen: u64 = 18446744073709551615;

@@ -1,4 +1,6 @@
 // Putting lines of the text form: a record's line of a text or of a listing, and its fields.
+#![tactic(auto)]
+
 ghost use Rattle.std.specs.Prelude.{◌+◌, ◌≤◌, length, replicate};
 ghost use Rattle.model.specs.Records.{records};
 ghost use Rattle.text_put.specs.Puts.{Put};

@@ -1,5 +1,7 @@
 // The text form of an itinerary: the answers of reading and writing it, and in specs/ what they are. (The functions are in
 // the crates text_read and text_write and those that these stand on.)
+#![tactic(auto)]
+
 use model::Refusal;
 
 // A line of the text form: how far it is indented, and the record's kind, label and name.

@@ -1,4 +1,6 @@
 // Reading a line of the text form: indentation, kind, label, name and end, or the cause of its fault.
+#![tactic(auto)]
+
 ghost use Rattle.std.specs.Prelude.{◌≡◌, eqb};
 ghost use Rattle.model.specs.Validity.{label_in};
 ghost use Rattle.text_form.specs.Reading.{cause_of, ended, indent_cause, labelled, line_read, named, unworded, worded};

@@ -1,4 +1,6 @@
 // What the bytes of a line start with: spaces, visible bytes, a word, a number; and the cause of a fault there.
+#![tactic(auto)]
+
 ghost use Rattle.std.specs.Prelude.{◌≡◌};
 ghost use Rattle.model.specs.Records.{byte};
 ghost use Rattle.text_form.specs.Reading.{cause_at, digit, digits_cause, number_cause, numeral, numeral_of, shown, spaces, starts, visible};

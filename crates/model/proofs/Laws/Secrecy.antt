@@ -9,20 +9,20 @@ use Rattle.model.specs.Finite.{every}
 use Rattle.model.proofs.Laws.Boundary.{SealedOff, environment-clear, sealed-closed, suspect-guarded}
 use Rattle.model.proofs.Laws.Bytes.{records-encode, valid-wf}
 use Rattle.model.proofs.Laws.Checks.{all_pass, answer-done, answer-value, passes}
-use Rattle.model.proofs.Laws.Done.{list-valid, step-records, step-valid}
+use Rattle.model.proofs.Laws.Done.{list-valid, outcome-done, step-records, step-valid}
 use Rattle.model.proofs.Laws.Holding.{Holds, holds-complete, holds-sound}
 use Rattle.model.proofs.Laws.Lists.{after-steps, answer_at, given-steps, single-steps}
 use Rattle.model.proofs.Laws.Sheet.{by-hidden, sheet-hidden}
 use Rattle.model.proofs.Laws.Simulation.{same_outcome, sheet-step}
-use Rattle.model.proofs.Laws.SubjectReduction.{step-holds}
-use Rattle.model.proofs.Laws.WellFormed.{small}
+use Rattle.model.proofs.Laws.SubjectReduction.{move-holds}
+use Rattle.model.proofs.Laws.WellFormed.{WellFormed, small}
 use Rattle.model.proofs.Laws.Booleans.{and_right}
 use Rattle.model.specs.Noninterference.{Demand3, Event, EveryClient, HighGuarded, OnSheet, SuspectsGuarded, after, all_steps, before, given, step_at}
 use Rattle.model.specs.Observer.{sheet, sheet_of}
 use Rattle.model.specs.Records.{at, byte, encode, records}
 use Rattle.model.specs.Refusals.{answer, content, done, pass}
 use Rattle.model.specs.Scripts.{Step, after_list}
-use Rattle.model.specs.Steps.{answer_of, outcome, step, step_bytes}
+use Rattle.model.specs.Steps.{Outcome, answer_of, done-by, effect, outcome, refused-with, step, step_bytes}
 use Rattle.model.specs.Tables.{Table, bits, is_boundary, parts, policy_right, suspects, table_right}
 use Rattle.model.specs.Validity.{validity}
 use Rattle.model.specs.declared.Rec.{Rec}
@@ -65,6 +65,15 @@ sheet-records s table = records-encode _
 unfoldable pub walk : Permit → List Rec → List Step → List Rec
 walk permit its [] = its
 walk permit its (m ∷ ms) = walk permit (step permit its m.actor m.partner) ms
+
+-- a step, done or refused, keeps a table that holds
+pub step-holds : {permit : Permit} {policy : List ℕ} {its : List Rec} {T : Table} → WellFormed its → Holds permit policy its T → (c b : ℕ) → Holds permit policy (step permit its c b) T
+unfolding step effect
+step-holds {permit} {policy} {its} {T} wf holds c b = go (outcome permit its c b) refl
+  where
+    go : (o : Outcome) → outcome permit its c b ≡ o → Holds permit policy (effect o its c b) T
+    go (refused-with n) e = holds
+    go (done-by k) e = move-holds wf holds c b k (outcome-done k e)
 
 -- a valid itinerary for which the table holds
 pub record Guarding (permit : Permit) (policy : List ℕ) (T : Table) (s : List ℕ) : Type 0 where

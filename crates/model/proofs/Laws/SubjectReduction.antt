@@ -7,12 +7,12 @@ use Rattle.std.proofs.Common.{◌∙◌, ap, sym}
 use Rattle.model.specs.Analysis.{Permit}
 use Rattle.model.specs.Climbing.{container, labelled, nearest, nesting}
 use Rattle.model.proofs.Laws.Containers.{ambients-nearest, container-small, labelled-amb, labelled-other, labelled-same, nearest-amb}
-use Rattle.model.proofs.Laws.Done.{Done, amb-alive, cap-alive, cap-nested, in-beside, in-holder, open-beside, out-above, out-holder, outcome-done}
+use Rattle.model.proofs.Laws.Done.{Done, amb-alive, cap-alive, cap-nested, in-beside, in-holder, open-beside, out-above, out-holder}
 use Rattle.model.proofs.Laws.Holding.{Holds, Infects, RowInside, Rule, Sub}
 use Rattle.model.proofs.Laws.Transport.{Gives, Mono, Nest, Nesting, move-each, move-moved}
 use Rattle.model.proofs.Laws.WellFormed.{WellFormed, amb-nested, small}
 use Rattle.model.specs.Records.{Capability, at, cap-in, cap-open, cap-out, capability, is_ambient, parent_of}
-use Rattle.model.specs.Steps.{Outcome, effect, done-by, move, outcome, ready, step, refused-with}
+use Rattle.model.specs.Steps.{move, ready}
 use Rattle.model.specs.Tables.{Table}
 use Rattle.model.specs.declared.Rec.{Rec}
 
@@ -80,12 +80,3 @@ module _ {permit : Permit} {policy : List ℕ} {its : List Rec} {T : Table} (wf 
     };
     high = holds.high;
   }
-
--- a step, done or refused, keeps a table that holds
-pub step-holds : {permit : Permit} {policy : List ℕ} {its : List Rec} {T : Table} → WellFormed its → Holds permit policy its T → (c b : ℕ) → Holds permit policy (step permit its c b) T
-unfolding step effect
-step-holds {permit} {policy} {its} {T} wf holds c b = go (outcome permit its c b) refl
-  where
-    go : (o : Outcome) → outcome permit its c b ≡ o → Holds permit policy (effect o its c b) T
-    go (refused-with n) e = holds
-    go (done-by k) e = move-holds wf holds c b k (outcome-done k e)

@@ -6,7 +6,6 @@ use Rattle.std.proofs.Math.ListN.{length, length-set}
 use Rattle.std.proofs.lemmas.List.{length-replicate}
 use Rattle.std.proofs.Math.Seq.{get_or-set_other, get_or-set_same}
 use Rattle.std.proofs.Math.Bool.{and-false}
-use Rattle.std.proofs.Math.Option.{none}
 use Rattle.std.proofs.Math.Path.{ap, sym}
 use Rattle.std.proofs.Math.Decide.{dec_le, ℕ_discrete}
 use native.Mathlib.Omega.{arith}
@@ -218,7 +217,7 @@ walk-rest w [] n room all tail = refl
 walk-rest {its} {m} {d} {above} w (l ∷ ls) (cons deep r n) room all tail =
     rw (walk-next its (length ls) m d m l.depth (next-line w l ls deep r n room all tail))
     (rw (here-line w l ls deep r n room all tail)
-    (ap (λ x. l ∷ x) (walk-rest (next-stage w l ls deep r n room all tail) ls n (next-room w l ls deep r n room all tail) (omega arith) (next-tail w l ls deep r n room all tail))))
+    (ap (λ x. l ∷ x) (walk-rest {m = suc m} {d = suc l.depth} {above = over-line w l ls deep r n room all tail} (next-stage w l ls deep r n room all tail) ls n (next-room w l ls deep r n room all tail) (omega arith) (next-tail w l ls deep r n room all tail))))
 
 pub none-length : length none_above ≡ 1025
 unfolding none_above
