@@ -1,5 +1,7 @@
 // The seed of the least table: what the itinerary and the policy ask for by themselves.
 // A table has 1,544 bytes, of which 512 from byte 1,024 are H; a policy has 64.
+#![tactic(auto)]
+
 ghost use Rattle.std.specs.Prelude.{◌≡◌, ℕ, ◌/◌, ◌%◌, ◌^◌, ◌<◌, length, get_or};
 ghost use Rattle.model.specs.Records.{count, records};
 ghost use Rattle.model.specs.Refusals.{pass};

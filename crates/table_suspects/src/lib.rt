@@ -1,5 +1,7 @@
 // The least set of suspects around a table's that has the rules of the movers; I stays as it is.
 // A table is 193 words, S the last; movers are 192.
+#![tactic(auto)]
+
 ghost use Rattle.std.specs.Prelude.{◌≡◌, ℕ, ◌<◌, length, get_or};
 ghost use Rattle.tables.specs.Grow.{Smallest};
 ghost use Rattle.table_words.specs.BitSets.{Bits};

@@ -1,4 +1,6 @@
 // The order in which the records of an itinerary are visited: depth first, the children of one parent by their numbers.
+#![tactic(auto)]
+
 ghost use Rattle.std.specs.Prelude.{◌≡◌};
 ghost use Rattle.model.specs.Records.{records};
 ghost use Rattle.text_form.specs.Parts.{Whole};

@@ -1,0 +1,40 @@
+-- The goals of `table_seed::fill_high`; the argument stands in Invariants.
+use Prim.Native.Nat.{◌+◌, ◌-◌, ℕ}
+use borrow.Author.Tests.{eq-eqb, ne_eqb}
+use lib.ListN.{length}
+use mathlib.Core.List.{List}
+use mathlib.Core.Path.{◌∙◌, ◌≡◌, ap, refl, subst, sym}
+use native.Mathlib.Omega.{arith}
+use Rattle.table_seed.specs.Seeds.{CellsSet}
+use Rattle.table_seed.specs.Laws.{cells-no, cells-none, cells-yes}
+use Rattle.model.specs.Tables.{bits, is_high, place_s}
+use Rattle.table_seed.proofs.fill_high.Goals as goal
+use Rattle.table_seed.proofs.fill_high.Goals.{then-policy-k-eq1, else-policy-k-eq1}
+
+pub loop-k-init : goal.loop-k-init
+loop-k-init c = (refl, omega arith, cells-none (is_high c.args.policy.now) place_s)
+
+pub set_bit-requires : goal.set_bit-requires
+set_bit-requires c = let e = c.loop-k.invariant.0 ∙ c.requires.table_len in omega arith
+
+pub loop-k-preserved : goal.loop-k-preserved
+unfolding is_high place_s
+loop-k-preserved c =
+    let a = c.args in let p = c.loop-k in let l : length p.table ≡ 1544 = p.invariant.0 ∙ c.requires.table_len in
+    elim c.if-policy-k-eq1.branch [
+    then-policy-k-eq1 v ↦ (
+      ap length v.table-is ∙ v.set_bit.auto.table ∙ p.invariant.0,
+      omega arith,
+      cells-yes (is_high a.policy.now) place_s p.k p.table _ (12288 + p.k) (eq-eqb _ _ v.if-policy-k-eq1.true) refl (omega arith) (v.table-is ∙ v.set_bit.ensures) p.invariant.2,
+    )
+    | else-policy-k-eq1 v ↦ (
+      ap length v.table-is ∙ p.invariant.0,
+      omega arith,
+      subst (λ (y : List ℕ). CellsSet (is_high a.policy.now) place_s (p.k + 1) (bits a.table.now) (bits y)) (sym v.table-is) (cells-no (is_high a.policy.now) place_s p.k (ne_eqb _ _ v.if-policy-k-eq1.false) p.invariant.2),
+    )
+    ]
+
+pub returns : goal.returns
+returns c =
+    let a = c.args in let e : c.loop-k.k ≡ 64 = omega arith in
+    subst (λ (k : ℕ). CellsSet (is_high a.policy.now) place_s k (bits a.table.now) (bits c.loop-k.table)) e c.loop-k.invariant.2
