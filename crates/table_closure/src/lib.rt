@@ -3,6 +3,8 @@
 // movers are 192 words.
 // With the movers fixed a sweep closes only the rows of I that read a row which has changed. When I is closed with all its
 // movers, S is.
+#![tactic(auto)]
+
 ghost use Rattle.std.specs.Prelude.{◌≡◌, ℕ, ◌<◌, length, get_or};
 ghost use Rattle.tables.specs.Grow.{Smallest};
 ghost use Rattle.table_words.specs.BitSets.{Bits};

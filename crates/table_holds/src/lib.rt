@@ -1,4 +1,6 @@
 // Whether a table holds for an itinerary and a policy. A table has 1,544 bytes, a policy 64.
+#![tactic(auto)]
+
 ghost use Rattle.std.specs.Prelude.{◌≡◌, true, ◌<◌, length};
 ghost use Rattle.model.specs.Analysis.{permit_all, holds};
 ghost use Rattle.model.specs.Finite.{every};
