@@ -1,4 +1,6 @@
 // What a screen does where its checks pass: a table of its own is made and judged, and then the script is run.
+#![tactic(auto)]
+
 ghost use Rattle.std.specs.Prelude.{◌≡◌, length};
 ghost use Rattle.model.specs.Calls.{screen_after, screen_answer, screen_answers, screening};
 ghost use Rattle.model.specs.Refusals.{done, pass};

@@ -1,5 +1,7 @@
 // The sequences of document 01: for each call its causes to refuse, in their order, as one value. A sequence starts with what
 // every call looks for first, so a cause that comes behind it goes into one place.
+#![tactic(auto)]
+
 ghost use Rattle.std.specs.Prelude.{◌≡◌};
 ghost use Rattle.model.specs.Calls.{checking, comparing, entry, making, running, screening, showing};
 ghost use Rattle.model.specs.Numbers.{checked_as};

@@ -1,4 +1,6 @@
 // Making the least table that holds. A table has 1,544 bytes, a policy 64.
+#![tactic(auto)]
+
 ghost use Rattle.std.specs.Prelude.{◌≡◌, length};
 ghost use Rattle.model.specs.Analysis.{permit_all};
 ghost use Rattle.model.specs.Least.{least_table};

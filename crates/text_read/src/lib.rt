@@ -1,4 +1,6 @@
 // Reading the text form of an itinerary: its lines one after the other, and the records that they are.
+#![tactic(auto)]
+
 ghost use Rattle.std.specs.Prelude.{◌≡◌, ◌+◌, ◌*◌, ◌/◌, ◌≤◌, min, leb, get_or, length, set};
 ghost use Rattle.records.specs.Written.{with_record};
 ghost use Rattle.text_form.specs.Reading.{length_told, lines_answer, longest, none_above, read_after, read_answer, record_of, scan, scan_answer};
@@ -77,7 +79,8 @@ fn read_by(text: &[u8], it: &mut [u8], scratch: &mut [u8], above: &mut [u16]) ->
     let TextRead::Records(n) = got else {
         return got;
     };
-    bytes::copy(&scratch[..8 * (n as usize)], it);
+    let len = 8 * (n as usize);
+    it[..len].copy_from_slice(&scratch[..len]);
     got
 }
 

@@ -1,0 +1,8 @@
+-- `text_read::place` meets its contract.
+use mathlib.Core.Path.{refl}
+use Rattle.text_form.specs.Reading.{record_of}
+use Rattle.text_read.proofs.place.Goals as goal
+
+pub returns : goal.returns
+unfolding record_of
+returns c = (c.put_record.ensures, refl)
