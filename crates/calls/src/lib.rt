@@ -1,5 +1,7 @@
 // Every call of the product, in the sequence of its definitions (Calls.antt of the model). A call is its sequence of checks
 // (where it has more than one, a function of `sequences`) and then what it does where they pass; none has a precondition.
+#![tactic(auto)]
+
 ghost use Rattle.std.specs.Prelude.{◌≡◌, ◌+◌};
 ghost use Rattle.model.specs.Calls.{check_answer, climb_answer, exposed_answer, make_after, make_answer, row_of, row_start, run_after, run_answer, run_answers, screen_after, screen_answer, screen_answers, sheet_after, sheet_answer, step_after, step_answer, validate_answer, verdict_answer};
 ghost use Rattle.model.specs.Numbers.{climbed_as, exposure_as, judged_as, made_as, performed_as, ran_as, screened_as, validated_as};

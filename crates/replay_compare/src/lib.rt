@@ -1,5 +1,7 @@
 // Comparing what a call gave with what a stored case says: the tests that decide a replay.
 // Nothing here is a call of the product. (The format of the cases is in simulator/README.md.)
+#![tactic(auto)]
+
 ghost use Rattle.std.specs.Prelude.{◌≡◌, take};
 ghost use Rattle.replay_compare.specs.Comparing.{agreeing, as_wanted, counting, more, no_calls, over, same_bytes, values, without};
 
@@ -17,7 +19,8 @@ pub fn part<'a>(s: &'a [u8], n: usize) -> &'a [u8]
 pub fn copy(from: &[u8], to: &mut [u8])
     ensures { to.new ≡ over from.now to.old }
 {
-    bytes::copy(part(from, to.len()), to);
+    let fit = part(from, to.len());
+    to[..fit.len()].copy_from_slice(fit);
 }
 
 // Whether two buffers have the same bytes.
