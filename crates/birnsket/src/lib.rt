@@ -1,4 +1,6 @@
 // The calls of the library as functions for callers in other languages. What a caller owes is in include/birnsket.h.
+#![tactic(auto)]
+
 ghost use Rattle.std.specs.Prelude.{◌≡◌};
 ghost use Rattle.model.specs.Calls.{check_answer, climb_answer, exposed_answer, make_after, make_answer, run_after, run_answer, run_answers, screen_after, screen_answer, screen_answers, sheet_after, sheet_answer, step_after, step_answer, validate_answer, verdict_answer};
 ghost use Rattle.packing.specs.Packing.{check_result, climb_result, exposed_result, make_result, row_result, run_result, screen_result, sheet_result, step_result, validate_result, verdict_result, version};
