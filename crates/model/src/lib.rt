@@ -1,4 +1,5 @@
 // The types that the contracts name. What they mean is in specs/.
+#![tactic(auto)]
 
 // A record of an itinerary: an ambient, a capability, or gone.
 #[derive(Clone, Copy)]

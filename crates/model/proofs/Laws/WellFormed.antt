@@ -1,5 +1,5 @@
 -- Itineraries that validation passes, as records: what taking a record out and giving it another parent keep.
-use Rattle.std.specs.Prelude.{◌<◌, ◌≤◌, suc, ℕ, leb, length, Bool, ◌&&◌, false, List, ◌≢◌, ◌≡◌}
+use Rattle.std.specs.Prelude.{◌<◌, ◌≤◌, suc, ℕ, leb, length, Bool, false, List, ◌≢◌, ◌≡◌}
 use Rattle.std.proofs.Common.{eqb-true, leb-true, true≢false, ◌∙◌, ap, sym, arith}
 use Rattle.std.proofs.Math.Bool.{true}
 use Rattle.std.proofs.Math.Decide.{dec_le, ℕ_discrete}
