@@ -1,7 +1,7 @@
 /*
  * birnsket.h: the bench hub's ambient screen, for callers in C.
  *
- * Link with libbirnsket.a, which `rt staticlib birnsket` writes and ./install
+ * Link with libbirnsket.a, which `./build birnsket` writes and ./install
  * puts into lib/, with this header in include/. It is for x86-64 with the
  * System V calling convention only, and needs memcpy and memset of whatever it
  * is linked with, nothing else. This header compiles as C99 and as C++11. The formats, the

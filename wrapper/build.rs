@@ -14,7 +14,7 @@ fn main() -> ExitCode {
     println!("cargo:rerun-if-changed={}", archive.display());
     if !archive.is_file() {
         eprintln!("{} isn't there.", archive.display());
-        eprintln!("`rt staticlib birnsket` in the repository's root writes target/staticlib/libbirnsket.a;");
+        eprintln!("`./build birnsket` in the repository's root writes target/staticlib/libbirnsket.a;");
         eprintln!("where it is in another folder, let BIRNSKET_LIB name that folder.");
         return ExitCode::FAILURE;
     }
