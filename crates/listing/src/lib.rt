@@ -1,4 +1,6 @@
 // The lines that hubscreen shows, put into a lent text.
+#![tactic(auto)]
+
 ghost use Rattle.std.specs.Prelude.{◌≡◌, ◌+◌, ◌≤◌, length, true, [], ◌++◌};
 ghost use Rattle.model.specs.Listing.{field, last_field, listing, step_lines, verdict_word};
 ghost use Rattle.model.specs.Numbers.{label_of, refusal};

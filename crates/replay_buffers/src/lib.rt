@@ -1,5 +1,7 @@
 // The buffers of a replay in one memory, and the numbers and bits of stored cases. (The format of a file of cases is in
 // simulator/README.md.)
+#![tactic(auto)]
+
 ghost use Rattle.std.specs.Prelude.{[], ◌∷◌, ◌≡◌, length, replicate};
 ghost use Rattle.replay_compare.specs.Comparing.{over};
 ghost use Rattle.replay_buffers.specs.Storing.{bytes_at, bytes_of, empty_room, number, raised, stored, turned};

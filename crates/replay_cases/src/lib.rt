@@ -1,7 +1,12 @@
 // Stored cases: reading a file of them up to its next call, which the program makes. (The format of a file is in
 // simulator/README.md.)
+#![tactic(auto)]
+
 use replay_buffers::Room;
 use replay_compare::{Result, Tally};
+use std::fs::File;
+use std::io::Read;
+use std::rt::Files;
 
 // What a case may be instead of a call: the end of the file, no case at all, or a command that only prepares the next.
 pub const END: u8 = 0;
@@ -41,15 +46,18 @@ fn with_len(room: Room, len: usize) -> Room {
     }
 }
 
-// Whether the file has enough bytes to fill the buffer, which it does.
-fn whole(fd: i32, buffer: &mut [u8]) -> bool {
-    io::read_full(fd, buffer) == buffer.len()
+// Whether the file has enough bytes to fill the buffer, which it does. (None is a file that could not be opened.)
+fn whole(file: &mut Option<impl Read>, buffer: &mut [u8]) -> bool {
+    match file {
+        Some(file) => files::read_full(file, buffer).len == buffer.len(),
+        None => buffer.is_empty(),
+    }
 }
 
 // The file's next number, or NONE where it ends before.
-fn next_number(fd: i32) -> usize {
+fn next_number(file: &mut Option<impl Read>) -> usize {
     let mut four = [0u8; 4];
-    if whole(fd, &mut four) {
+    if whole(file, &mut four) {
         return replay_buffers::word(four[0], four[1], four[2], four[3]) as usize;
     }
     NONE
@@ -65,9 +73,9 @@ struct Head {
 }
 
 // The head of the file's next command, or a fault where the file ends before.
-fn next_head(fd: i32) -> Head {
+fn next_head(file: &mut Option<impl Read>) -> Head {
     let mut b = [0u8; 6];
-    if whole(fd, &mut b) {
+    if whole(file, &mut b) {
         return Head {
             code: b[0],
             small: b[1],
@@ -82,12 +90,18 @@ fn next_head(fd: i32) -> Head {
 }
 
 // Sets a buffer and its shadow to the file's next n bytes.
-fn set(fd: i32, room: Room, n: usize, held: &mut [u8], wants: &mut [u8]) -> Room {
+fn set(
+    file: &mut Option<impl Read>,
+    room: Room,
+    n: usize,
+    held: &mut [u8],
+    wants: &mut [u8],
+) -> Room {
     let start = room.start;
     if room.size < n {
         return no_room();
     }
-    if !whole(fd, replay_buffers::place_mut(held, start, n)) {
+    if !whole(file, replay_buffers::place_mut(held, start, n)) {
         return no_room();
     }
     replay_compare::copy(
@@ -118,10 +132,17 @@ fn bit(wanted: bool, room: Room, k: usize, held: &mut [u8], wants: &mut [u8]) {
 }
 
 // The bits that the file lists, n of them.
-fn bits(fd: i32, wanted: bool, room: Room, n: usize, held: &mut [u8], wants: &mut [u8]) -> Room {
+fn bits(
+    file: &mut Option<impl Read>,
+    wanted: bool,
+    room: Room,
+    n: usize,
+    held: &mut [u8],
+    wants: &mut [u8],
+) -> Room {
     let mut left = n;
     while 0 < left {
-        let k = next_number(fd);
+        let k = next_number(file);
         if room.len <= k / 8 {
             return no_room();
         }
@@ -132,32 +153,39 @@ fn bits(fd: i32, wanted: bool, room: Room, n: usize, held: &mut [u8], wants: &mu
 }
 
 // Overwrites n bytes of a shadow, from the offset on that the file gives first.
-fn want_bytes(fd: i32, room: Room, n: usize, wants: &mut [u8]) -> Room {
-    let at = next_number(fd);
+fn want_bytes(file: &mut Option<impl Read>, room: Room, n: usize, wants: &mut [u8]) -> Room {
+    let at = next_number(file);
     let shadow = replay_buffers::lent_mut(wants, room);
     let part = replay_buffers::place_mut(shadow, at, n);
     if part.len() != n {
         return no_room();
     }
-    if whole(fd, part) {
+    if whole(file, part) {
         return room;
     }
     no_room()
 }
 
 // A command on one buffer: its room afterwards.
-fn prepared(fd: i32, op: u8, room: Room, n: usize, held: &mut [u8], wants: &mut [u8]) -> Room {
+fn prepared(
+    file: &mut Option<impl Read>,
+    op: u8,
+    room: Room,
+    n: usize,
+    held: &mut [u8],
+    wants: &mut [u8],
+) -> Room {
     if op == 3 {
-        return set(fd, room, n, held, wants);
+        return set(file, room, n, held, wants);
     }
     if op == 4 {
         return set_zeros(room, n, held, wants);
     }
     if (op == 5) | (op == 8) {
-        return bits(fd, op == 8, room, n, held, wants);
+        return bits(file, op == 8, room, n, held, wants);
     }
     if op == 6 {
-        return want_bytes(fd, room, n, wants);
+        return want_bytes(file, room, n, wants);
     }
     if op == 7 {
         replay_buffers::clear(replay_buffers::lent_mut(wants, room));
@@ -201,13 +229,13 @@ fn answer_of(b: [u8; 27]) -> Result {
 }
 
 // What the file wants of a call, with as many values as its head says; the others are 0.
-fn wanted(fd: i32, h: Head, rooms: [Room; 16]) -> Case {
+fn wanted(file: &mut Option<impl Read>, h: Head, rooms: [Room; 16]) -> Case {
     let mut b = [0u8; 27];
     let n = 3 + 4 * (h.small as usize);
     if 27 < n {
         return other(FAULT, rooms);
     }
-    if !whole(fd, &mut b[0..n]) {
+    if !whole(file, &mut b[0..n]) {
         return other(FAULT, rooms);
     }
     Case {
@@ -220,9 +248,9 @@ fn wanted(fd: i32, h: Head, rooms: [Room; 16]) -> Case {
 }
 
 // The end of a file, or a fault where bytes stand behind it.
-fn at_end(fd: i32, rooms: [Room; 16]) -> Case {
+fn at_end(file: &mut Option<impl Read>, rooms: [Room; 16]) -> Case {
     let mut one = [0u8; 1];
-    if whole(fd, &mut one) {
+    if whole(file, &mut one) {
         return other(FAULT, rooms);
     }
     other(END, rooms)
@@ -242,26 +270,36 @@ fn changed(k: u8, room: Room, rooms: [Room; 16]) -> Case {
 }
 
 // The file's next command: it is done, if it is no call.
-fn command(fd: i32, rooms: [Room; 16], held: &mut [u8], wants: &mut [u8]) -> Case {
-    let h = next_head(fd);
+fn command(
+    file: &mut Option<impl Read>,
+    rooms: [Room; 16],
+    held: &mut [u8],
+    wants: &mut [u8],
+) -> Case {
+    let h = next_head(file);
     if h.code == END {
-        return at_end(fd, rooms);
+        return at_end(file, rooms);
     }
     if CALLS <= h.code {
-        return wanted(fd, h, rooms);
+        return wanted(file, h, rooms);
     }
     let k = (h.small % 16) as usize;
-    let room = prepared(fd, h.code, rooms[k], h.number as usize, held, wants);
+    let room = prepared(file, h.code, rooms[k], h.number as usize, held, wants);
     changed(h.small, room, rooms)
 }
 
 // The file's next call, with the buffers set for it.
-pub fn next_case(fd: i32, rooms: [Room; 16], held: &mut [u8], wants: &mut [u8]) -> Case {
+pub fn next_case(
+    file: &mut Option<impl Read>,
+    rooms: [Room; 16],
+    held: &mut [u8],
+    wants: &mut [u8],
+) -> Case {
     let mut now = rooms;
     let mut left: usize = 1000000;
     while 0 < left {
         left -= 1;
-        let c = command(fd, now, held, wants);
+        let c = command(file, now, held, wants);
         if c.call != MORE {
             return c;
         }
@@ -271,22 +309,26 @@ pub fn next_case(fd: i32, rooms: [Room; 16], held: &mut [u8], wants: &mut [u8]) 
     other(FAULT, now)
 }
 
-// Opens a file of cases; -1 where it can't be opened or begins otherwise.
-pub fn open(path: &[u8]) -> i32 {
-    let fd = os::open_read(path);
-    if fd < 0 {
-        return -1;
-    }
+// Opens a file of cases; none where it can't be opened or begins otherwise.
+pub fn open<R: Files>(rt: &R, path: &[u8]) -> Option<R::File> {
+    let mut file = opened(rt, path);
     let mut h = [0u8; 5];
-    if whole(fd, &mut h) & replay_compare::same(&h, b"case\x02") {
-        return fd;
+    if whole(&mut file, &mut h) & replay_compare::same(&h, b"case\x02") {
+        return file;
     }
-    libc::close(fd);
-    -1
+    None
 }
 
-fn count(n: u32) {
-    io::print_decimal(1, n as u64);
+fn opened<R: Files>(rt: &R, path: &[u8]) -> Option<R::File> {
+    File::open(rt, str::from_utf8(path).ok()?).ok()
+}
+
+fn write(out: &impl Print, bytes: &[u8]) {
+    let _ = out.write_all(bytes);
+}
+
+fn count(out: &impl Print, n: u32) {
+    let _ = out.print(n);
 }
 
 // What a replay came to: the tally, and whether what followed in the file was no case.
@@ -297,17 +339,17 @@ pub struct Ended {
 }
 
 // Closes the file and writes a line with its name, the calls made and those that differ.
-pub fn finish(fd: i32, name: &[u8], e: Ended) {
-    libc::close(fd);
+pub fn finish<F: Drop>(out: &impl Print, file: Option<F>, name: &[u8], e: Ended) {
+    drop(file);
     let t = e.tally;
-    io::write_all(1, name);
-    io::write_all(1, b": ");
-    count(t.calls);
-    io::write_all(1, b" calls, ");
-    count(t.differ);
-    io::write_all(1, b" differ");
+    write(out, name);
+    write(out, b": ");
+    count(out, t.calls);
+    write(out, b" calls, ");
+    count(out, t.differ);
+    write(out, b" differ");
     if e.fault {
-        io::write_all(1, b", and then no case");
+        write(out, b", and then no case");
     }
-    io::write_all(1, b"\n");
+    write(out, b"\n");
 }

@@ -1,5 +1,5 @@
 -- Bits added to a list of words, as a loop adds them.
-use Rattle.std.specs.Prelude.{◌-◌, ◌<◌, ℕ, get_or, length, ◌||◌, true, List, ◌⊎◌, ◌≡◌}
+use Rattle.std.specs.Prelude.{◌<◌, ℕ, get_or, length, ◌||◌, true, List, ◌⊎◌, ◌≡◌}
 use Rattle.std.proofs.Common.{get_or-set_other, get_or-set_same, inl, inr, ⊎_elim, ◌∙◌, ap, sym}
 use Rattle.std.proofs.Math.Decide.{ℕ_discrete}
 use Rattle.model.proofs.Laws.Bit.{or-bit}

@@ -1,5 +1,5 @@
 -- The bits of a list of words as one set of numbers, and what `xs[i] |= v` does to it.
-use Rattle.std.specs.Prelude.{◌%◌, ◌*◌, ◌+◌, ◌-◌, ◌/◌, ◌<◌, ◌^◌, ℕ, eqb, get_or, length, set, ◌||◌, true, List, ◌⊎◌, ◌≡◌, refl}
+use Rattle.std.specs.Prelude.{◌%◌, ◌*◌, ◌+◌, ◌/◌, ◌<◌, ◌^◌, ℕ, eqb, get_or, length, set, ◌||◌, true, List, ◌⊎◌, ◌≡◌, refl}
 use Rattle.std.specs.Int.Bits.{bit_and, bit_or}
 use Rattle.std.proofs.Common.{get_or-set_other, get_or-set_same, ⊎_elim, ◌∙◌, ap, ap₂, subst, sym, eq-or-lt_of_le, le_of_suc-le-suc, add-one, arith}
 use Rattle.std.proofs.Math.Decide.{dec_lt, ℕ_discrete}

@@ -1,5 +1,5 @@
 -- Where a table lies in 193 words: row a of I in words 2 a and 2 a + 1, row a of H in word 128 + a, S in word 192.
-use Rattle.std.specs.Prelude.{◌*◌, ◌+◌, ◌-◌, ◌<◌, ℕ, get_or, true, List, ◌≡◌, refl}
+use Rattle.std.specs.Prelude.{◌*◌, ◌+◌, ◌<◌, ℕ, get_or, true, List, ◌≡◌, refl}
 use Rattle.std.proofs.Common.{arith}
 use Rattle.model.specs.Tables.{test_bit}
 use Rattle.tables.specs.Grow.{Set}

@@ -1,5 +1,5 @@
 -- A way grows at its end by the number above.
-use Rattle.std.specs.Prelude.{◌*◌, ◌+◌, ◌<◌, ◌≤◌, suc, zero, ℕ, get_or, length, set, List, ◌≢◌, ◌≡◌, refl}
+use Rattle.std.specs.Prelude.{◌*◌, ◌+◌, ◌<◌, ◌≤◌, suc, zero, ℕ, get_or, length, set, List, ◌≡◌, refl}
 use Rattle.std.proofs.Common.{length-set, get_or-set_other, get_or-set_same, ◌∙◌, ap, sym, add-one, arith}
 use Rattle.std.proofs.Math.Decide.{ℕ_discrete}
 use Rattle.model.specs.Climbing.{climb}

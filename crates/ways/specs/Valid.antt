@@ -4,7 +4,7 @@ use Rattle.std.specs.Prelude.{◌-◌, ◌<◌, ◌≤◌, suc, zero, ℕ, get_o
 use Rattle.std.proofs.Common.{◌∙◌, ap, sym, arith}
 use Rattle.model.specs.Climbing.{climb}
 use Rattle.model.proofs.Laws.Bytes.{at-whole, length-records, valid-wf, valid-whole}
-use Rattle.model.proofs.Laws.Forest.{Depth, above, depth_le}
+use Rattle.model.proofs.Laws.Forest.{above, depth_le}
 use Rattle.model.proofs.Laws.WellFormed.{WellFormed, parent_in, small}
 use Rattle.model.specs.Records.{at, count, decode, is_ambient, parent_of, records}
 use Rattle.model.specs.Refusals.{pass}

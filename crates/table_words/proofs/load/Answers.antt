@@ -1,5 +1,5 @@
 -- The goals of `table_words::load`; the argument stands in Invariants.
-use Prim.Native.Nat.{◌*◌, ◌-◌}
+use Prim.Native.Nat.{◌*◌}
 use lib.ListN.{drop, length, length-set, take}
 use mathlib.Core.Path.{refl}
 use native.Mathlib.Omega.{arith}

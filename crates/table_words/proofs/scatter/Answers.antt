@@ -3,7 +3,6 @@ use Prim.Native.Nat.{◌+◌, ◌-◌}
 use lib.Bits.{and_le_l, and_le_r}
 use lib.Count.{count_trailing_zeros}
 use lib.ListN.{length-set}
-use mathlib.Core.Bool.{true}
 use mathlib.Core.Path.{refl}
 use native.Mathlib.Nat.{le_refl, le_trans}
 use native.Mathlib.Omega.{arith}

@@ -1,6 +1,6 @@
 -- `table_words::scatter` meets its contract. The loop's invariant: `rest` is a part of the bits, and the words of the bits
 -- that are no longer in it have the value; `rest` falls, for its lowest one bit is cleared.
-use Prim.Native.Nat.{◌-◌, ◌≤◌, ℕ}
+use Prim.Native.Nat.{◌≤◌, ℕ}
 use lib.ListN.{length}
 use mathlib.Core.Bool.{true}
 use mathlib.Core.Path.{◌≡◌}

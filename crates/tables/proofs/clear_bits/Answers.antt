@@ -1,7 +1,7 @@
 -- The goals of `tables::clear_bits`; the argument stands in Invariants.
-use Prim.Native.Nat.{◌*◌, ◌-◌, ◌≤◌}
+use Prim.Native.Nat.{◌*◌, ◌≤◌}
 use borrow.Author.Count.{below_more}
-use mathlib.Core.Bool.{false, not}
+use mathlib.Core.Bool.{not}
 use mathlib.Core.Path.{◌∙◌, ap, refl, sym}
 use native.Mathlib.Nat.{mul-le-mul_left}
 use native.Mathlib.Omega.{arith}

@@ -1,5 +1,4 @@
 -- The goals of `tables::policy_right`; the argument stands in Invariants.
-use Prim.Native.Nat.{◌-◌}
 use borrow.Author.Count.{below_more}
 use native.Mathlib.Omega.{arith}
 use Rattle.tables.specs.Loops.{policy-first, policy-good, policy-long, policy-over}

@@ -1,5 +1,4 @@
 -- The goals of `tables::row_included`; the argument stands in Invariants.
-use Prim.Native.Nat.{◌-◌}
 use Rattle.tables.specs.Loops.{extra-end, extra-next, extra-none}
 use native.Mathlib.Omega.{arith}
 use Rattle.tables.proofs.row_included.Goals as goal

@@ -1,5 +1,4 @@
 -- The goals of `ways::up_from`; the argument stands in Invariants.
-use Prim.Native.Nat.{◌-◌}
 use native.Mathlib.Omega.{arith}
 use Rattle.ways.specs.Laws.{going_end, going_next, going_start, unset-record, whole_in}
 use Rattle.ways.proofs.up_from.Goals as goal
