@@ -1,6 +1,6 @@
 -- One number more is noted; a way up is noted from its top back.
 use Prim.Native.Nat.{◌+◌, ◌-◌, ◌<◌, ◌≤◌, suc, zero, ℕ}
-use Rattle.std.specs.Prelude.{eqb, leb, length, replicate, set, Bool, List, ◌≢◌, ◌≡◌, refl}
+use Rattle.std.specs.Prelude.{leb, length, replicate, set, List, ◌≢◌, ◌≡◌, refl}
 use Rattle.std.proofs.Math.ListN.{get_or}
 use Rattle.std.proofs.lemmas.List.{get_or-replicate, length-replicate}
 use Rattle.std.proofs.Common.{length-set, get_or-set_other, get_or-set_same, ◌∙◌, zero-add, arith}
@@ -11,13 +11,13 @@ use Rattle.std.proofs.Math.Path.{ap, sym}
 use Rattle.std.proofs.Math.Decide.{dec_le, ℕ_discrete}
 use Rattle.ways.specs.Valid.{valid-passable}
 use Rattle.enclosures.specs.Notes.{Enclosing, Nearests, Notable, Noted, boundary_notes, enclosed_by, label_notes, up_to}
-use Rattle.model.specs.Climbing.{bounded, climb, enclosing, enclosure, is_bound, labelled, nearest, view}
+use Rattle.model.specs.Climbing.{bounded, climb, enclosing, enclosure, is_bound, labelled}
 use Rattle.model.proofs.Laws.Bytes.{at-whole, valid-few, valid-wf, valid-whole}
-use Rattle.model.proofs.Laws.Containers.{labelled-amb, labelled-other, nearest-small}
+use Rattle.model.proofs.Laws.Containers.{nearest-small}
 use Rattle.model.proofs.Laws.Enclosure.{enclosed-label}
 use Rattle.model.proofs.Laws.Views.{view-on, view-top}
 use Rattle.model.proofs.Laws.Finite.{get_d_tabulate, length-tabulate}
-use Rattle.model.specs.Records.{at, count, decode, is_ambient, parent_of, records}
+use Rattle.model.specs.Records.{at, count, decode, parent_of, records}
 use Rattle.model.specs.Refusals.{pass}
 use Rattle.model.specs.Tables.{is_boundary}
 use Rattle.model.specs.Validity.{validity}

@@ -1,4 +1,6 @@
 // What hubscreen writes of what it lends: the screen by the library, and its listing put into a lent text.
+#![tactic(auto)]
+
 ghost use Rattle.std.specs.Prelude.{◌≡◌, length};
 ghost use Rattle.listing.specs.Lines.{shown};
 ghost use Rattle.model.specs.Calls.{screen_after, screen_answers};

@@ -1,5 +1,5 @@
 -- The movers that a loop over the words of partners adds are those of the table.
-use Rattle.std.specs.Prelude.{◌%◌, ◌*◌, ◌+◌, ◌-◌, ◌/◌, ◌<◌, ℕ, get_or, List, ◌⊎◌, ◌≡◌}
+use Rattle.std.specs.Prelude.{◌%◌, ◌*◌, ◌+◌, ◌/◌, ◌<◌, ℕ, get_or, List, ◌⊎◌, ◌≡◌}
 use Rattle.std.proofs.Common.{inl, inr, ⊎_elim, ◌∙◌, ap, ap₂, subst, sym, arith}
 use Rattle.std.proofs.Math.Decide.{ℕ_discrete}
 use Rattle.model.specs.Tables.{test_bit}

@@ -1,6 +1,6 @@
 -- Movers, of a table whose set of bits is u: word 64 * kind + b has the labels in which some capability of this kind may
 -- stand that targets a name of b. Kinds are 0 in, 1 out, 2 open.
-use Rattle.std.specs.Prelude.{◌%◌, ◌*◌, ◌+◌, ◌-◌, ◌/◌, ◌<◌, ℕ, get_or, true, List, ◌≡◌}
+use Rattle.std.specs.Prelude.{◌%◌, ◌*◌, ◌+◌, ◌/◌, ◌<◌, ℕ, get_or, true, List, ◌≡◌}
 use Rattle.std.proofs.Common.{true≢false, ◌∙◌, ap, sym}
 use Rattle.model.proofs.Laws.Bit.{zero_bit}
 use Rattle.model.proofs.Laws.Booleans.{bool_iff}

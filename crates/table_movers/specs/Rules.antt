@@ -1,5 +1,5 @@
 -- The rules by movers, for a pair, a row and all rows, and that they are the rules by partners.
-use Rattle.std.specs.Prelude.{◌%◌, ◌*◌, ◌+◌, ◌-◌, ◌/◌, ◌<◌, ℕ, get_or, true, List, ◌≡◌}
+use Rattle.std.specs.Prelude.{◌%◌, ◌*◌, ◌+◌, ◌/◌, ◌<◌, ℕ, get_or, true, List, ◌≡◌}
 use Rattle.std.proofs.Common.{◌∙◌, ap₂, sym, arith}
 use Rattle.model.specs.Tables.{test_bit}
 use Rattle.tables.specs.Grow.{Set}

@@ -1,4 +1,6 @@
 // The partners of an itinerary's capabilities, folded into 192 words: 64 labels to each of three kinds. A table is 193 words.
+#![tactic(auto)]
+
 ghost use Rattle.std.specs.Prelude.{◌≡◌, ℕ, length, get_or, true};
 ghost use Rattle.model.specs.Validity.{shape, validity};
 ghost use Rattle.model.specs.Records.{count, records};

@@ -9,7 +9,7 @@ use Rattle.std.proofs.Math.Decide.{ℕ_discrete}
 use native.Mathlib.Omega.{arith}
 use Rattle.table_movers.specs.Rules.{NestingClosed, RowClosed, SuspectsClosed, closed-rows, closed-suspects, movers-closed}
 use Rattle.table_rules.specs.Tests.{Decides, InOutHeld, OpenHeld, PairHeld, RowHeld, Within, open_holds}
-use Rattle.model.specs.Analysis.{holds, only_if}
+use Rattle.model.specs.Analysis.{only_if}
 use Rattle.model.specs.Finite.{every}
 use Rattle.model.proofs.Laws.Bit.{or-bit, or_same, same_or, zero_bit}
 use Rattle.model.proofs.Laws.Bytes.{length-records, valid-wf}

@@ -1,4 +1,6 @@
 // Writing the text form of an itinerary, and listing an itinerary with what the sheet hides marked.
+#![tactic(auto)]
+
 ghost use Rattle.std.specs.Prelude.{◌≡◌, ◌≤◌, length};
 ghost use Rattle.text_put.specs.Puts.{over};
 ghost use Rattle.text_form.specs.Parts.{Whole, Written, whole_text};

@@ -12,7 +12,7 @@ use Rattle.model.proofs.Laws.Finite.{replicated}
 use Rattle.model.proofs.Laws.Forest.{Depth, above, depth_le, under_of}
 use Rattle.model.proofs.Laws.Updates.{at-over, at-root}
 use Rattle.model.proofs.Laws.Views.{depth-reaches, reaches-depth}
-use Rattle.model.specs.Records.{at, count, decode, parent_of, records}
+use Rattle.model.specs.Records.{count, decode, parent_of, records}
 use Rattle.model.specs.Refusals.{each_of, pass, refuse}
 use Rattle.model.specs.Validity.{climb_check, form, parent_right, record_check, size_right}
 use Rattle.model.specs.declared.Rec.{Rec}

@@ -1,5 +1,4 @@
 -- The goals of `enclosures::enclose`; the argument stands in Invariants.
-use Prim.Native.Nat.{◌-◌}
 use native.Mathlib.Omega.{arith}
 use Rattle.ways.specs.Valid.{near-all}
 use Rattle.enclosures.specs.Laws.{passed-end, passed-next, passed-notable, passed_start}

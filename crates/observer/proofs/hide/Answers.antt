@@ -1,6 +1,4 @@
 -- The goals of `observer::hide`; the argument stands in Invariants.
-use Prim.Native.Nat.{◌-◌}
-use mathlib.Core.Logic.{⊎_elim}
 use mathlib.Core.Path.{◌∙◌, refl, sym}
 use native.Mathlib.Omega.{arith}
 use Rattle.records.specs.Written.{pass-end, pass-length, pass-next, pass-read, pass-whole, written_none}
@@ -50,9 +48,9 @@ loop-i-preserved c =
       markable l.invariant.1 h.auto.marks h.ensures.1,
       h.auto.marks ∙ l.invariant.2,
       elim c.if-settled.branch [
-        then-settled v ↦ v.sheet-is ∙ v.put_record.ensures ∙ pass-next _ _ _ _ _ l.invariant.3 (omega arith) _ _ refl (c.gone-gone.ensures ∙ sheet-gone _ _ _ _ h.ensures.0 v.if-settled.true)
+        | then-settled v ↦ v.sheet-is ∙ v.put_record.ensures ∙ pass-next _ _ _ _ _ l.invariant.3 (omega arith) _ _ refl (c.gone-gone.ensures ∙ sheet-gone _ _ _ _ h.ensures.0 v.if-settled.true)
         | else-settled v ↦ v.sheet-is ∙ sym (pass-whole _ _ _ _ l.invariant.3 (λ j. omega (arith, c.type_inv.it j)) c.requires.0.valid (omega arith))
-          ∙ pass-next _ _ _ _ _ l.invariant.3 (omega arith) _ _ refl (pass-read _ _ _ _ _ l.invariant.3 (omega arith) ∙ sheet-stands _ _ _ _ h.ensures.0 v.if-settled.false)
+            ∙ pass-next _ _ _ _ _ l.invariant.3 (omega arith) _ _ refl (pass-read _ _ _ _ _ l.invariant.3 (omega arith) ∙ sheet-stands _ _ _ _ h.ensures.0 v.if-settled.false)
       ],
     )
 

@@ -4,7 +4,7 @@ use Prim.Native.Nat.{◌-◌, ◌≤◌}
 use lib.ListN.{length}
 use mathlib.Core.Path.{◌≡◌}
 use Rattle.records.specs.Written.{written}
-use Rattle.model.specs.Observer.{on_sheet, sheet}
+use Rattle.model.specs.Observer.{on_sheet}
 use Rattle.model.specs.Records.{records, update}
 use Rattle.model.specs.Tables.{suspects}
 use Rattle.observer.specs.Marks.{Markable}

@@ -1,6 +1,6 @@
 -- `observer::noted` meets its contract. The loop's invariant: every mark is true, and `found` is whether the number k climbs
 -- above i is hidden, the top of the way at first and i itself at last; k falls.
-use Prim.Native.Nat.{◌-◌, ◌≤◌}
+use Prim.Native.Nat.{◌≤◌}
 use lib.ListN.{length}
 use mathlib.Core.Path.{◌≡◌}
 use Rattle.model.specs.Climbing.{climb, hidden}

@@ -1,5 +1,4 @@
 -- The goals of `scripts::not_gone`; the argument stands in Invariants.
-use Prim.Native.Nat.{◌-◌}
 use native.Mathlib.Omega.{arith}
 use Rattle.scripts.specs.NotGone.{none_yet, one_more, all_seen}
 use Rattle.std.proofs.Common.{rules}

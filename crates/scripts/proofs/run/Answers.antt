@@ -1,5 +1,4 @@
 -- The goals of `scripts::run`; the argument stands in Invariants.
-use Prim.Native.Nat.{◌-◌}
 use mathlib.Core.Path.{refl}
 use native.Mathlib.Omega.{arith}
 use Rattle.scripts.specs.Runs.{running-end, running-few, running-next, running-room, running-start, running-valid, script-of}
@@ -23,14 +22,13 @@ counted-c-requires c =
     omega arith
 
 pub loop-k-preserved : goal.loop-k-preserved
-loop-k-preserved c =
-    (
-      omega arith,
-      c.loop-k.invariant.1,
-      c.loop-k.invariant.2,
-      running-next c.loop-k.invariant.3 (omega arith) (omega arith) c.word_at-actor.ensures c.word_at-partner.ensures c.act-o.ensures.0
-          _ _ _ c.act-o.ensures.1 c.act-o.auto.it c.number_of.ensures c.counted-c.ensures,
-    )
+loop-k-preserved c = (
+  omega arith,
+  c.loop-k.invariant.1,
+  c.loop-k.invariant.2,
+  running-next c.loop-k.invariant.3 (omega arith) (omega arith) c.word_at-actor.ensures c.word_at-partner.ensures c.act-o.ensures.0
+      _ _ _ c.act-o.ensures.1 c.act-o.auto.it c.number_of.ensures c.counted-c.ensures,
+)
 
 pub returns : goal.returns
 returns c = running-end c.loop-k.invariant.3 (omega arith) (omega arith) (omega arith)

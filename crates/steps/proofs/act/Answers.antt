@@ -11,10 +11,9 @@ pub returns-in_default : goal.returns-in_default
 returns-in_default c = (c.decide-o.ensures, act-refused _ _ _ (sym c.decide-o.ensures ∙ c.in_default.is))
 
 pub returns : goal.returns
-returns c =
-    (
-      sym c.in-Done.is ∙ c.decide-o.ensures,
-      c.apply.ensures
-          ∙ act-done _ _ _ c.requires (sym c.decide-o.ensures ∙ c.in-Done.is) c.record_at-c.ensures c.record_at-p.ensures
-          c.move_of.ensures,
-    )
+returns c = (
+  sym c.in-Done.is ∙ c.decide-o.ensures,
+  c.apply.ensures
+      ∙ act-done _ _ _ c.requires (sym c.decide-o.ensures ∙ c.in-Done.is) c.record_at-c.ensures c.record_at-p.ensures
+      c.move_of.ensures,
+)

@@ -4,7 +4,6 @@ use Rattle.records.specs.Written.{pass-end, pass-length, pass-next, pass-read, p
 use Rattle.steps.specs.Moves.{applied}
 use native.Mathlib.Omega.{arith}
 use mathlib.Core.Path.{◌∙◌, refl}
-use Prim.Native.Nat.{◌-◌}
 use Rattle.model.proofs.Laws.Bytes.{valid-few, valid-whole}
 use Rattle.steps.proofs.apply.Goals as goal
 

@@ -1,5 +1,4 @@
 -- The goals of `table_movers::fold_partners`; the argument stands in Invariants.
-use Prim.Native.Nat.{◌-◌}
 use mathlib.Core.Path.{◌∙◌, refl}
 use native.Mathlib.Omega.{arith}
 use Rattle.table_movers.specs.Folds.{folded-end, folded-next, folded-none}

@@ -1,5 +1,5 @@
 -- The goals of `table_partners::add_all_partners`; the argument stands in Invariants.
-use Prim.Native.Nat.{◌+◌, ◌-◌, ◌/◌, ℕ}
+use Prim.Native.Nat.{◌+◌, ◌/◌, ℕ}
 use lib.ListN.{length}
 use mathlib.Core.Path.{◌∙◌, ◌≡◌, refl, subst, sym}
 use native.Mathlib.Omega.{arith}

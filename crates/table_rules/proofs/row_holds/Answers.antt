@@ -4,7 +4,6 @@ use Rattle.table_rules.specs.Laws.{tested-all, tested-next, tested-not}
 use lib.Bits.{and_le_l, and_le_r}
 use lib.Count.{count_trailing_zeros}
 use lib.ListN.{get_or}
-use mathlib.Core.Bool.{true}
 use native.Mathlib.Nat.{le_refl, le_trans}
 use native.Mathlib.Omega.{arith}
 use Rattle.table_words.specs.OverBits.{rest-sub}

@@ -1,6 +1,6 @@
 -- `table_rules::row_holds` meets its contract. The loop's invariant: `rest` is a part of the labels in row p, and the rules
 -- hold for those no longer in it; `rest` falls, for its lowest one bit is cleared.
-use Prim.Native.Nat.{◌*◌, ◌-◌, ◌≤◌, ℕ}
+use Prim.Native.Nat.{◌*◌, ◌≤◌, ℕ}
 use Rattle.table_rules.specs.Laws.{Tested}
 use Rattle.model.specs.Tables.{test_bit}
 use lib.ListN.{get_or}

@@ -1,5 +1,4 @@
 -- The goals of `table_rules::rows_hold`; the argument stands in Invariants.
-use Prim.Native.Nat.{◌-◌}
 use Rattle.table_rules.specs.Laws.{decide-no}
 use borrow.Author.Count.{below_more}
 use mathlib.Core.Path.{refl}

@@ -1,5 +1,4 @@
 -- The goals of `validity::climb_all`; the argument stands in Invariants.
-use Prim.Native.Nat.{◌-◌}
 use mathlib.Core.Path.{◌∙◌, refl, sym}
 use native.Mathlib.Omega.{arith}
 use Rattle.model.specs.Numbers.{checked_as}

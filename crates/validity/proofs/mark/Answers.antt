@@ -1,5 +1,4 @@
 -- The goals of `validity::mark`; the argument stands in Invariants.
-use Prim.Native.Nat.{◌-◌}
 use lib.ListN.{length-set}
 use mathlib.Core.Path.{◌∙◌, refl}
 use native.Mathlib.Omega.{arith}

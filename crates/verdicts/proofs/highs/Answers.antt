@@ -1,5 +1,4 @@
 -- The goals of `verdicts::highs`; the argument stands in Invariants.
-use Prim.Native.Nat.{◌-◌}
 use lib.ListN.{length-set}
 use native.Mathlib.Omega.{arith}
 use Rattle.verdicts.specs.Laws.{highs-end, highs-next, highs-start}

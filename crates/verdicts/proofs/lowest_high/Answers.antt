@@ -1,7 +1,5 @@
 -- The goals of `verdicts::lowest_high`; the argument stands in Invariants.
-use Prim.Native.Nat.{◌-◌}
 use borrow.Author.Count.{below_more}
-use mathlib.Core.Bool.{false}
 use native.Mathlib.Omega.{arith}
 use Rattle.model.specs.Tables.{is_high}
 use Rattle.model.specs.Verdicts.{marked}

@@ -1,5 +1,4 @@
 -- The goals of `verdicts::lowest_suspect`; the argument stands in Invariants.
-use Prim.Native.Nat.{◌-◌}
 use borrow.Author.Count.{below_more}
 use lib.ListN.{get_or}
 use mathlib.Core.Bool.{Bool, ◌&&◌, false}

@@ -1,5 +1,4 @@
 -- The goals of `verdicts::meets`; the argument stands in Invariants.
-use Prim.Native.Nat.{◌-◌}
 use mathlib.Core.Path.{◌∙◌}
 use native.Mathlib.Omega.{arith}
 use Rattle.model.specs.Verdicts.{marked}

@@ -1,5 +1,4 @@
 -- The goals of `verdicts::reach_until`; the argument stands in Invariants.
-use Prim.Native.Nat.{◌-◌}
 use lib.ListN.{length-set}
 use mathlib.Core.Path.{◌∙◌, sym}
 use native.Mathlib.Omega.{arith}

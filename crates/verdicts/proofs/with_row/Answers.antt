@@ -1,5 +1,4 @@
 -- The goals of `verdicts::with_row`; the argument stands in Invariants.
-use Prim.Native.Nat.{◌-◌}
 use Rattle.model.specs.Tables.{bits}
 use Rattle.verdicts.specs.Laws.{row-end, row_next, row-none}
 use lib.ListN.{length, length-set}
