@@ -1,5 +1,5 @@
 -- The rules of movers for all rows, by sweeps that leave out what has not changed.
-use Rattle.std.specs.Prelude.{◌%◌, ◌*◌, ◌+◌, ◌-◌, ◌/◌, ◌<◌, ◌^◌, ℕ, get_or, List, ◌⊎◌, ◌≡◌, refl}
+use Rattle.std.specs.Prelude.{◌%◌, ◌*◌, ◌+◌, ◌/◌, ◌<◌, ◌^◌, ℕ, get_or, List, ◌≡◌, refl}
 use borrow.Author.Tests.{eq-eqb}
 use Rattle.std.specs.Int.Bits.{bit_and, bit_or}
 use Rattle.std.proofs.Math.Bool.{false, true}

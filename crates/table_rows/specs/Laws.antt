@@ -1,5 +1,5 @@
 -- The rules of movers for one pair and for a row: what the word operations add, and that it is asked for.
-use Rattle.std.specs.Prelude.{◌*◌, ◌+◌, ◌-◌, ◌<◌, ℕ, get_or, false, true, List, ◌⊎◌, ◌≡◌}
+use Rattle.std.specs.Prelude.{◌*◌, ◌+◌, ◌-◌, ◌<◌, ℕ, get_or, false, true, List, ◌≡◌}
 use Rattle.std.specs.Int.Bits.{bit_and}
 use Rattle.std.proofs.Common.{inl, inr, ⊎_elim, ◌∙◌, ap, sym, arith}
 use Rattle.std.proofs.Math.Decide.{dec_lt}

@@ -1,5 +1,4 @@
 -- The goals of `table_closure::close_nesting`; the argument stands in Invariants.
-use Prim.Native.Nat.{◌-◌}
 use Rattle.table_closure.specs.Rounds.{round-end, round-on, round-only}
 use Rattle.model.proofs.Laws.Sets.{Narrow}
 use Rattle.tables.specs.Grow.{start}

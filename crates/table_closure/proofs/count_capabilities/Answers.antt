@@ -1,5 +1,5 @@
 -- The goals of `table_closure::count_capabilities`; the argument stands in Invariants.
-use Prim.Native.Nat.{◌+◌, ◌-◌}
+use Prim.Native.Nat.{◌+◌}
 use mathlib.Core.Path.{◌∙◌, ap, sym}
 use native.Mathlib.Omega.{arith}
 use Rattle.table_closure.specs.Capabilities.{capabilities, capabilities-le, capabilities-next, capabilities-none}

@@ -1,5 +1,5 @@
 -- The goals of `table_closure::sweep`; the argument stands in Invariants.
-use Prim.Native.Nat.{◌+◌, ◌-◌, ◌<◌, ℕ}
+use Prim.Native.Nat.{◌+◌, ◌<◌, ℕ}
 use Rattle.table_closure.specs.Laws.{Sweeping, sweep-end, sweep-none, sweep-skip, sweep-row}
 use lib.ListN.{length}
 use mathlib.Core.List.{List}

@@ -1,5 +1,5 @@
 -- The goals of `table_closure::to_fixpoint`; the argument stands in Invariants.
-use Prim.Native.Nat.{◌*◌, ◌-◌, ℕ}
+use Prim.Native.Nat.{◌*◌, ℕ}
 use Rattle.table_closure.specs.Laws.{all-owed, fixpoint-end, fixpoint-on}
 use Rattle.tables.specs.Grow.{start}
 use lib.ListN.{length}

@@ -5,7 +5,6 @@ use Rattle.table_rows.specs.Changes.{changed-as, changed-none, changed_then}
 use lib.Bits.{and_le_l, and_le_r}
 use lib.Count.{count_trailing_zeros}
 use lib.ListN.{get_or}
-use mathlib.Core.Bool.{true}
 use mathlib.Core.Path.{◌∙◌, refl}
 use native.Mathlib.Nat.{le_refl, le_trans}
 use native.Mathlib.Omega.{arith}

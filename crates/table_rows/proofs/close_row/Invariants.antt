@@ -1,7 +1,7 @@
 -- `table_rows::close_row` meets its contract. The loop's invariant: `rest` is a part of the labels that stood in row p at
 -- the start, the pairs of those no longer in it are closed unless the table has changed since, and all rows that changed are
 -- read by row p; `rest` falls, for its lowest one bit is cleared.
-use Prim.Native.Nat.{◌*◌, ◌-◌, ◌≤◌, ℕ}
+use Prim.Native.Nat.{◌*◌, ◌≤◌, ℕ}
 use Rattle.table_rows.specs.Laws.{ReadBelow}
 use Rattle.table_rows.specs.Changes.{RowsChanged}
 use Rattle.model.specs.Tables.{test_bit}

@@ -1,5 +1,5 @@
 -- The goals of `table_suspects::made_suspect`; the argument stands in Invariants.
-use Prim.Native.Nat.{◌+◌, ◌-◌, ℕ}
+use Prim.Native.Nat.{◌+◌, ℕ}
 use Rattle.table_suspects.specs.Suspects.{MadeSuspect, caused, made-end, made-no, made_none, made-yes}
 use mathlib.Core.Path.{◌∙◌, subst, sym}
 use native.Mathlib.Omega.{arith}
@@ -15,7 +15,7 @@ loop-outer-preserved c =
     let a = c.args in let l = c.loop-outer in let e = c.bit_of.ensures in let at : ℕ → Type 0 = λ r. MadeSuspect a.w.now a.movers.now a.b (l.outer + 1) r in (
       omega arith,
       elim c.if-bit_of.branch [
-        then-bit_of v ↦ subst at (sym v.found-is) (made-yes a.w.now a.movers.now a.b l.outer l.found l.invariant.1 (sym e ∙ v.if-bit_of.true))
+        | then-bit_of v ↦ subst at (sym v.found-is) (made-yes a.w.now a.movers.now a.b l.outer l.found l.invariant.1 (sym e ∙ v.if-bit_of.true))
         | else-bit_of v ↦ subst at (sym v.found-is) (made-no a.w.now a.movers.now a.b l.outer l.found l.invariant.1 (sym e ∙ v.if-bit_of.false))
       ],
     )
