@@ -1,9 +1,13 @@
 // Replays the stored cases of the calls, file by file, and writes a line for each.
+#![tactic(auto)]
+
 ghost use Rattle.std.specs.Prelude.{◌≡◌, length};
 
 use replay_buffers::Room;
 use replay_cases::{Case, Ended};
 use replay_compare::{Result, Tally};
+use std::io::Read;
+use std::rt::Files;
 
 mod itinerary;
 mod results;
@@ -42,13 +46,13 @@ fn made(t: Tally, c: Case, held: &mut [u8], wants: &[u8]) -> Tally {
 
 // The calls of a file, up to its end, to what is no case, or to one that differs; at most a million. (What a call that
 // differs has left is no start for the next.)
-fn replay(fd: i32, held: &mut [u8], wants: &mut [u8]) -> Ended {
+fn replay(file: &mut Option<impl Read>, held: &mut [u8], wants: &mut [u8]) -> Ended {
     let mut rooms = rooms();
     let mut t = replay_compare::no_calls();
     let mut left: usize = 1000000;
     while 0 < left {
         left -= 1;
-        let c = replay_cases::next_case(fd, rooms, held, wants);
+        let c = replay_cases::next_case(file, rooms, held, wants);
         if c.call <= replay_cases::FAULT {
             return Ended {
                 tally: t,
@@ -86,16 +90,16 @@ fn shadows() -> [u8; 19120]
 }
 
 // A file, with a memory of its own.
-fn play(name: &[u8]) {
+fn play(rt: &(impl Files + Print), name: &[u8]) {
     let mut held = memory();
     let mut wants = shadows();
-    let fd = replay_cases::open(name);
-    let e = replay(fd, &mut held, &mut wants);
-    replay_cases::finish(fd, name, e);
+    let mut file = replay_cases::open(rt, name);
+    let e = replay(&mut file, &mut held, &mut wants);
+    replay_cases::finish(rt, file, name, e);
 }
 
-fn main() {
-    play(b"itinerary.cases");
-    play(b"table.cases");
-    play(b"screen.cases");
+fn main(rt: HostRuntime) {
+    play(&rt, b"itinerary.cases");
+    play(&rt, b"table.cases");
+    play(&rt, b"screen.cases");
 }

@@ -20,8 +20,8 @@ loop-p-preserved c =
     let l = c.loop-p in let h : l.p < 64 = omega arith in
     let at : List ℕ → ℕ → Type 0 = λ w dirty. Sweeping m a.w.now w a.dirty_before dirty (l.p + 1) in
     elim c.if-dirty_before-dirty-ne0.branch [
-    then-dirty_before-dirty-ne0 v ↦ (ap length v.w-is ∙ v.close_row-dirty.auto.w ∙ l.invariant.0, omega arith, subst₂ at (sym v.w-is) (sym v.dirty-is) (sweep-row m a.w.now a.dirty_before l.w l.dirty l.p h l.invariant.2 v.close_row-dirty.new.w v.close_row-dirty.result v.close_row-dirty.ensures.grown v.close_row-dirty.ensures.rows_changed))
-    | else-dirty_before-dirty-ne0 v ↦ (ap length v.w-is ∙ l.invariant.0, omega arith, subst₂ at (sym v.w-is) (sym v.dirty-is) (sweep-skip m a.w.now a.dirty_before l.w l.dirty l.p h l.invariant.2 v.if-dirty_before-dirty-ne0.false))
+      | then-dirty_before-dirty-ne0 v ↦ (ap length v.w-is ∙ v.close_row-dirty.auto.w ∙ l.invariant.0, omega arith, subst₂ at (sym v.w-is) (sym v.dirty-is) (sweep-row m a.w.now a.dirty_before l.w l.dirty l.p h l.invariant.2 v.close_row-dirty.new.w v.close_row-dirty.result v.close_row-dirty.ensures.grown v.close_row-dirty.ensures.rows_changed))
+      | else-dirty_before-dirty-ne0 v ↦ (ap length v.w-is ∙ l.invariant.0, omega arith, subst₂ at (sym v.w-is) (sym v.dirty-is) (sweep-skip m a.w.now a.dirty_before l.w l.dirty l.p h l.invariant.2 v.if-dirty_before-dirty-ne0.false))
     ]
 
 pub returns : goal.returns

@@ -1,5 +1,4 @@
 -- The goals of `table_seed::clear`; the argument stands in Invariants.
-use Prim.Native.Nat.{◌-◌}
 use lib.ListN.{length, length-set}
 use mathlib.Core.Path.{refl}
 use native.Mathlib.Omega.{arith}

@@ -1,5 +1,5 @@
 -- The goals of `table_seed::fill_high`; the argument stands in Invariants.
-use Prim.Native.Nat.{◌+◌, ◌-◌, ℕ}
+use Prim.Native.Nat.{◌+◌, ℕ}
 use borrow.Author.Tests.{eq-eqb, ne_eqb}
 use lib.ListN.{length}
 use mathlib.Core.List.{List}
@@ -22,16 +22,16 @@ unfolding is_high place_s
 loop-k-preserved c =
     let a = c.args in let p = c.loop-k in let l : length p.table ≡ 1544 = p.invariant.0 ∙ c.requires.table_len in
     elim c.if-policy-k-eq1.branch [
-    then-policy-k-eq1 v ↦ (
-      ap length v.table-is ∙ v.set_bit.auto.table ∙ p.invariant.0,
-      omega arith,
-      cells-yes (is_high a.policy.now) place_s p.k p.table _ (12288 + p.k) (eq-eqb _ _ v.if-policy-k-eq1.true) refl (omega arith) (v.table-is ∙ v.set_bit.ensures) p.invariant.2,
-    )
-    | else-policy-k-eq1 v ↦ (
-      ap length v.table-is ∙ p.invariant.0,
-      omega arith,
-      subst (λ (y : List ℕ). CellsSet (is_high a.policy.now) place_s (p.k + 1) (bits a.table.now) (bits y)) (sym v.table-is) (cells-no (is_high a.policy.now) place_s p.k (ne_eqb _ _ v.if-policy-k-eq1.false) p.invariant.2),
-    )
+      | then-policy-k-eq1 v ↦ (
+        ap length v.table-is ∙ v.set_bit.auto.table ∙ p.invariant.0,
+        omega arith,
+        cells-yes (is_high a.policy.now) place_s p.k p.table _ (12288 + p.k) (eq-eqb _ _ v.if-policy-k-eq1.true) refl (omega arith) (v.table-is ∙ v.set_bit.ensures) p.invariant.2,
+      )
+      | else-policy-k-eq1 v ↦ (
+        ap length v.table-is ∙ p.invariant.0,
+        omega arith,
+        subst (λ (y : List ℕ). CellsSet (is_high a.policy.now) place_s (p.k + 1) (bits a.table.now) (bits y)) (sym v.table-is) (cells-no (is_high a.policy.now) place_s p.k (ne_eqb _ _ v.if-policy-k-eq1.false) p.invariant.2),
+      )
     ]
 
 pub returns : goal.returns

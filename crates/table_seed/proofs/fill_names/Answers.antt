@@ -1,5 +1,5 @@
 -- The goals of `table_seed::fill_names`; the argument stands in Invariants.
-use Prim.Native.Nat.{◌*◌, ◌+◌, ◌-◌, ◌<◌, ◌≤◌, ℕ}
+use Prim.Native.Nat.{◌*◌, ◌+◌, ◌<◌, ◌≤◌, ℕ}
 use lib.ListN.{length}
 use mathlib.Core.List.{List}
 use mathlib.Core.Path.{◌∙◌, ◌≡◌, ap, refl, subst, sym}
@@ -56,17 +56,17 @@ loop-i-preserved c =
     let e : l.i + 1 ≤ count c.args.it.now = omega arith in
     let m = l.invariant.0 ∙ c.requires.names_len in
     elim c.if-r-eq1.branch [
-    then-r-eq1 v ↦ let k = bears it c.requires.valid l.i e r.result r.ensures v.if-r-eq1.true in let x = k.label in let y = k.name in (
-      ap length v.names-is ∙ v.set_bit.auto.table ∙ l.invariant.0,
-      omega arith,
-      cells-yes (bearing (records it)) (name_cell (records it)) l.i l.names _ (64 * r.result.label + r.result.name) k.test k.cell (omega arith) (v.names-is ∙ v.set_bit.ensures) l.invariant.2,
-    )
-    | else-r-eq1 v ↦ (
-      ap length v.names-is ∙ l.invariant.0,
-      omega arith,
-      subst (λ (y : List ℕ). CellsSet (bearing (records it)) (name_cell (records it)) (l.i + 1) (bits c.args.names.now) (bits y)) (sym v.names-is)
-          (cells-no (bearing (records it)) (name_cell (records it)) l.i (bears-not it c.requires.valid l.i e r.result r.ensures v.if-r-eq1.false) l.invariant.2),
-    )
+      | then-r-eq1 v ↦ let k = bears it c.requires.valid l.i e r.result r.ensures v.if-r-eq1.true in let x = k.label in let y = k.name in (
+        ap length v.names-is ∙ v.set_bit.auto.table ∙ l.invariant.0,
+        omega arith,
+        cells-yes (bearing (records it)) (name_cell (records it)) l.i l.names _ (64 * r.result.label + r.result.name) k.test k.cell (omega arith) (v.names-is ∙ v.set_bit.ensures) l.invariant.2,
+      )
+      | else-r-eq1 v ↦ (
+        ap length v.names-is ∙ l.invariant.0,
+        omega arith,
+        subst (λ (y : List ℕ). CellsSet (bearing (records it)) (name_cell (records it)) (l.i + 1) (bits c.args.names.now) (bits y)) (sym v.names-is)
+            (cells-no (bearing (records it)) (name_cell (records it)) l.i (bears-not it c.requires.valid l.i e r.result r.ensures v.if-r-eq1.false) l.invariant.2),
+      )
     ]
 
 pub returns : goal.returns

@@ -1,5 +1,5 @@
 -- The goals of `table_seed::fill_nesting_by_labels`; the argument stands in Invariants.
-use Prim.Native.Nat.{◌*◌, ◌+◌, ◌-◌, ◌<◌, ◌≤◌, ℕ}
+use Prim.Native.Nat.{◌*◌, ◌+◌, ◌<◌, ◌≤◌, ℕ}
 use lib.ListN.{get_or, length}
 use mathlib.Core.List.{List}
 use mathlib.Core.Path.{◌∙◌, ◌≡◌, ap, refl, subst, sym}
@@ -67,17 +67,17 @@ loop-i-preserved c =
     let m = l.invariant.0 ∙ c.requires.table_len in
     let a : ℕ = get_or c.args.labels.now r.result.parent 0 in
     elim c.if-r.branch [
-    then-r v ↦ let k = stands it c.requires.valid l.i e r.result r.ensures _ (c.requires.nearests.is _ (parent-near it c.requires.valid _ _ r.ensures)) v.if-r.true in let x = k.label in let y = k.above in (
-      ap length v.table-is ∙ v.set_bit.auto.table ∙ l.invariant.0,
-      omega arith,
-      cells-yes (standing (records it)) (nesting_cell (records it)) l.i l.table _ (128 * a + r.result.label) k.test k.cell (omega arith) (v.table-is ∙ v.set_bit.ensures) l.invariant.2,
-    )
-    | else-r v ↦ (
-      ap length v.table-is ∙ l.invariant.0,
-      omega arith,
-      subst (λ (y : List ℕ). CellsSet (standing (records it)) (nesting_cell (records it)) (l.i + 1) (bits c.args.table.now) (bits y)) (sym v.table-is)
-          (cells-no (standing (records it)) (nesting_cell (records it)) l.i (stands-not it c.requires.valid l.i e r.result r.ensures v.if-r.false) l.invariant.2),
-    )
+      | then-r v ↦ let k = stands it c.requires.valid l.i e r.result r.ensures _ (c.requires.nearests.is _ (parent-near it c.requires.valid _ _ r.ensures)) v.if-r.true in let x = k.label in let y = k.above in (
+        ap length v.table-is ∙ v.set_bit.auto.table ∙ l.invariant.0,
+        omega arith,
+        cells-yes (standing (records it)) (nesting_cell (records it)) l.i l.table _ (128 * a + r.result.label) k.test k.cell (omega arith) (v.table-is ∙ v.set_bit.ensures) l.invariant.2,
+      )
+      | else-r v ↦ (
+        ap length v.table-is ∙ l.invariant.0,
+        omega arith,
+        subst (λ (y : List ℕ). CellsSet (standing (records it)) (nesting_cell (records it)) (l.i + 1) (bits c.args.table.now) (bits y)) (sym v.table-is)
+            (cells-no (standing (records it)) (nesting_cell (records it)) l.i (stands-not it c.requires.valid l.i e r.result r.ensures v.if-r.false) l.invariant.2),
+      )
     ]
 
 pub returns : goal.returns
