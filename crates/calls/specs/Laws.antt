@@ -1,19 +1,17 @@
 -- What each call returns and leaves, by what its checks found: one law for each where they refuse, and one where they pass.
-use Rattle.std.specs.Prelude.{◌%◌, ◌≤◌, ℕ, length, Bool, List, ◌≡◌}
+use Rattle.std.specs.Prelude.{ℕ, Bool, List, ◌≡◌}
 use Rattle.std.proofs.Common.{◌∙◌}
 use Rattle.std.proofs.Math.Path.{ap, refl, sym}
 use Rattle.model.specs.Analysis.{permit_all}
 use Rattle.model.specs.Calls.{checking, climb_answer, entry, exposed_answer, make_after, make_answer, making, outcome_check, run_after, run_answer, run_answers, running, screen_after, screen_answer, screen_answers, screening, sheet_after, sheet_answer, showing, step_after, step_answer, stepping, validate_answer, verdict_answer}
 use Rattle.model.specs.Climbing.{enclosure}
-use Rattle.model.proofs.Laws.Bytes.{valid-few, valid-whole}
 use Rattle.model.proofs.Laws.Checks.{answer-done, answer-refused, content-kept, content-new, done-answer, refuse-answer, then_next, then-refuse}
-use Rattle.model.proofs.Laws.Done.{list-valid}
 use Rattle.model.specs.Least.{least_table}
 use Rattle.model.specs.Numbers.{refusal, validated_as}
 use Rattle.model.specs.Observer.{sheet_of}
 use Rattle.model.specs.Records.{count, records}
 use Rattle.model.specs.Refusals.{answer, done, pass, refuse}
-use Rattle.model.specs.Scripts.{after_list, answers_of, counts_of, not_gone, outcomes, steps_in}
+use Rattle.model.specs.Scripts.{after_list, answers_of, counts_of, outcomes, steps_in}
 use Rattle.model.specs.Steps.{outcome, step_bytes}
 use Rattle.model.specs.Tables.{bits, parts, total}
 use Rattle.model.specs.Validity.{validity}
@@ -22,7 +20,6 @@ use Rattle.model.specs.declared.Above.{Above}
 use Rattle.model.specs.declared.Counts.{Counts}
 use Rattle.model.specs.declared.Outcome.{Outcome}
 use Rattle.model.specs.declared.Refusal.{Refusal}
-use Rattle.model.specs.declared.Screen.{Screen}
 use Rattle.model.specs.declared.Validated.{Validated}
 use Rattle.model.specs.declared.Validated.TheVariants.{Done as Good, Refused as Bad}
 use Rattle.model.specs.declared.Verdict.{Verdict}

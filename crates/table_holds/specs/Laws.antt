@@ -1,5 +1,5 @@
 -- The parts of the check make up when a table holds.
-use Rattle.std.specs.Prelude.{◌+◌, ◌-◌, ◌<◌, ◌≤◌, ℕ, length, Bool, false, true, List, ◌≡◌}
+use Rattle.std.specs.Prelude.{◌+◌, ◌<◌, ◌≤◌, ℕ, length, Bool, false, true, List, ◌≡◌}
 use borrow.Author.Tests.{eq-eqb, leb-true, ne_eqb}
 use Rattle.std.proofs.Common.{true≢false, ◌∙◌, ap₂, sym, arith}
 use Rattle.table_holds.specs.Tests.{nesting_holds, stood}

@@ -1,5 +1,5 @@
 -- The seed, closed, is the least table.
-use Rattle.std.specs.Prelude.{◌*◌, ◌+◌, ◌-◌, ◌<◌, ℕ, leb, length, ◌||◌, true, List, ◌≡◌}
+use Rattle.std.specs.Prelude.{◌*◌, ◌+◌, ◌<◌, ℕ, leb, length, ◌||◌, true, List, ◌≡◌}
 use borrow.Author.Tests.{le-leb, le-ltb, lt-leb, lt-ltb}
 use Rattle.std.proofs.Math.Dec.{ltb}
 use Rattle.std.proofs.Common.{◌∙◌, subst, subst₂, sym, arith}

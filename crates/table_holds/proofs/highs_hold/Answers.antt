@@ -1,8 +1,7 @@
 -- The goals of `table_holds::highs_hold`; the argument stands in Invariants.
-use Prim.Native.Nat.{◌-◌}
 use borrow.Author.Count.{below_more}
-use borrow.Author.Tests.{eq-eqb, ne_eqb, not-false}
-use mathlib.Core.Bool.{true, true≢false}
+use borrow.Author.Tests.{eq-eqb, ne_eqb}
+use mathlib.Core.Bool.{true≢false}
 use mathlib.Core.Path.{◌∙◌, sym}
 use native.Mathlib.Omega.{arith}
 use Rattle.model.specs.Tables.{is_high, place_s}
@@ -21,8 +20,8 @@ pub loop-k-preserved : goal.loop-k-preserved
 unfolding is_high place_s
 loop-k-preserved c =
     let l = c.loop-k in elim c.if-policy-k-eq1.branch [
-    then-policy-k-eq1+else-not-bit v ↦ (omega arith, below_more _ _ l.invariant.1 (λ _. sym v.bit.ensures ∙ v.if-not-bit.false))
-    | else-policy-k-eq1 v ↦ (omega arith, below_more _ _ l.invariant.1 (λ h. absurd (true≢false (sym h ∙ ne_eqb _ _ v.if-policy-k-eq1.false))))
+      | then-policy-k-eq1+else-not-bit v ↦ (omega arith, below_more _ _ l.invariant.1 (λ _. sym v.bit.ensures ∙ v.if-not-bit.false))
+      | else-policy-k-eq1 v ↦ (omega arith, below_more _ _ l.invariant.1 (λ h. absurd (true≢false (sym h ∙ ne_eqb _ _ v.if-policy-k-eq1.false))))
     ]
 
 pub returns : goal.returns

@@ -1,9 +1,8 @@
 -- The goals of `table_holds::nesting_holds_by_labels`; the argument stands in Invariants.
-use Prim.Native.Nat.{◌+◌, ◌-◌, ◌≤◌}
+use Prim.Native.Nat.{◌+◌, ◌≤◌}
 use borrow.Author.Count.{below_more}
-use borrow.Author.Tests.{not-false}
 use lib.ListN.{length}
-use mathlib.Core.Bool.{true, true≢false}
+use mathlib.Core.Bool.{true≢false}
 use mathlib.Core.Path.{◌∙◌, sym}
 use native.Mathlib.Omega.{arith}
 use Rattle.table_holds.specs.Laws.{read-stood}
@@ -58,8 +57,8 @@ loop-i-preserved c =
     let e : l.i + 1 ≤ count c.args.it.now = omega arith in
     let p = c.requires.nearests.is _ (parent-near it c.requires.valid _ _ r.ensures) in
     elim c.if-r.branch [
-    then-r+else-not-stands v ↦ (omega arith, below_more _ _ l.invariant.1 (λ _. sym (read-stood it c.requires.valid l.i e r.result r.ensures _ _ p) ∙ sym v.stands.ensures ∙ v.if-not-stands.false))
-    | else-r v ↦ (omega arith, below_more _ _ l.invariant.1 (λ t. absurd (true≢false (sym t ∙ stands-not it c.requires.valid l.i e r.result r.ensures v.if-r.false))))
+      | then-r+else-not-stands v ↦ (omega arith, below_more _ _ l.invariant.1 (λ _. sym (read-stood it c.requires.valid l.i e r.result r.ensures _ _ p) ∙ sym v.stands.ensures ∙ v.if-not-stands.false))
+      | else-r v ↦ (omega arith, below_more _ _ l.invariant.1 (λ t. absurd (true≢false (sym t ∙ stands-not it c.requires.valid l.i e r.result r.ensures v.if-r.false))))
     ]
 
 pub returns : goal.returns

@@ -1,5 +1,5 @@
 -- The goals of `table_least::count_ones`; the argument stands in Invariants.
-use Prim.Native.Nat.{◌*◌, ◌+◌, ◌-◌, ℕ}
+use Prim.Native.Nat.{◌*◌, ◌+◌, ℕ}
 use lib.Count.{ones, ones-le}
 use lib.ListN.{drop, get_or, length}
 use mathlib.Core.Path.{◌≡◌, ap}

@@ -1,5 +1,5 @@
 -- `text_write::fill` meets its contract. The loop's invariant: the lines before are written.
-use Rattle.model.specs.Records.{at, records}
+use Rattle.model.specs.Records.{records}
 use Rattle.text_form.specs.Laws.Walking.{Filling}
 use Rattle.text_form.specs.Parts.{visit_line}
 use Rattle.text_write.proofs.fill.Given as goal
