@@ -3,10 +3,10 @@
  *
  * Link with libbirnsket.a, which `./build birnsket` writes and ./install
  * puts into lib/, with this header in include/. It is for x86-64 with the
- * System V calling convention only, and needs memcpy, memmove and memset of
- * whatever it is linked with, nothing else. This header compiles as C99 and
- * as C++11. The formats, the words and the rules that the calls use are
- * explained first; each call's contract stands with it.
+ * System V calling convention only, and needs memcpy and memset of whatever it
+ * is linked with, nothing else. This header compiles as C99 and as C++11. The formats, the
+ * words and the rules that the calls use are explained first; each call's
+ * contract stands with it.
  *
  * WHAT A CALLER OWES
  *

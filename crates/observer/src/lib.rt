@@ -105,6 +105,19 @@ fn hide(it: &[u8], table: &[u8], marks: &mut [u8], sheet: &mut [u8])
     }
 }
 
+// Copies the itinerary to the sheet.
+fn copy(it: &[u8], sheet: &mut [u8])
+    requires { length sheet.old ≡ length it.now }
+    ensures { sheet.new ≡ it.now }
+{
+    let n = it.len();
+    let mut i: usize = 0;
+    while i < n {
+        sheet[i] = it[i];
+        i += 1;
+    }
+}
+
 // Writes the sheet.
 pub fn write_sheet(it: &[u8], table: &[u8], sheet: &mut [u8])
     requires { (validity it.now ≡ pass) × (length table.now ≡ 1544) × (length sheet.old ≡ length it.now) }
@@ -112,6 +125,6 @@ pub fn write_sheet(it: &[u8], table: &[u8], sheet: &mut [u8])
 {
     let mut marks = [0u8; 1025];
     marks[0] = 1;
-    sheet.copy_from_slice(it);
+    copy(it, sheet);
     hide(it, table, &mut marks, sheet);
 }

@@ -4,4 +4,4 @@ use Rattle.observer.specs.Laws.{marked-root}
 use Rattle.observer.proofs.write_sheet.Goals as goal
 
 pub hide-requires : goal.hide-requires
-hide-requires c = let w = c.requires in (marked-root w.0 w.1, c.copy_from_slice.ensures.after)
+hide-requires c = let w = c.requires in (marked-root w.0 w.1, c.copy.ensures)
