@@ -29,6 +29,7 @@ pub mod Exposure
 pub mod Enclosure
 pub mod Readings
 pub mod Moves
+pub mod Finding
 pub mod Reductions
 pub mod Chains
 pub mod Adequacy
