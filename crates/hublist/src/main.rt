@@ -1,5 +1,7 @@
 // Reads itinerary.bin and policy.bin, makes the table, and lists the itinerary as a tree in which what the observer's
 // sheet hides is marked. Where it is refused, or a file can't be read, nothing is written but the cause, on standard error.
+#![tactic(auto)]
+
 ghost use Rattle.std.specs.Prelude.{[], ◌≡◌, ◌≤◌, length};
 ghost use Rattle.hublist.specs.Listed.{listed};
 ghost use Rattle.model.specs.Calls.{make_after};
@@ -17,29 +19,29 @@ fn room() -> [u8; 1075200] {
 }
 
 // Tells a refusal, and answers how much of the text is written.
-fn tell(r: Refusal) -> usize
+fn tell(err: &impl Print, r: Refusal) -> usize
     ensures { result ≡ 0 }
 {
-    text_refusal::tell(b"hublist", r);
+    text_refusal::tell(err, b"hublist", r);
     0
 }
 
 // Fills the text with the listing by a table, and answers its length. There is always room for it: the equations
 // hold of the arm without room only because it never comes to it.
-fn list(it: &[u8], table: &[u8], text: &mut [u8]) -> usize
+fn list(err: &impl Print, it: &[u8], table: &[u8], text: &mut [u8]) -> usize
     requires { 1075200 ≤ length text.old }
     ensures { (result ≡ length (text_or [] (listable it.now table.now) (list_of (records it.now) (suspects table.now))))
         × (text.new ≡ over (text_or [] (listable it.now table.now) (list_of (records it.now) (suspects table.now))) text.old) }
 {
     match text_write::list_text(it, table, text) {
-        TextWritten::Refused(r) => tell(r),
+        TextWritten::Refused(r) => tell(err, r),
         TextWritten::Length(len) => len,
         TextWritten::NoRoom(_) => 0,
     }
 }
 
 // Fills the text with what the program writes by the table that it makes, and answers its length.
-fn list_made(it: &[u8], policy: &[u8], table: &mut [u8], text: &mut [u8]) -> usize
+fn list_made(err: &impl Print, it: &[u8], policy: &[u8], table: &mut [u8], text: &mut [u8]) -> usize
     requires { 1075200 ≤ length text.old }
     ensures { (result ≡ length (listed it.now policy.now table.old))
         × (text.new ≡ over (listed it.now policy.now table.old) text.old)
@@ -47,23 +49,24 @@ fn list_made(it: &[u8], policy: &[u8], table: &mut [u8], text: &mut [u8]) -> usi
         × (result ≤ length text.new) }
 {
     match calls::make(it, policy, table) {
-        Made::Refused(r) => tell(r),
-        Made::Done(_) => list(it, table, text),
+        Made::Refused(r) => tell(err, r),
+        Made::Done(_) => list(err, it, table, text),
     }
 }
 
-fn main() {
+fn main(rt: HostRuntime) {
+    let err = rt.stderr();
     let mut it = [0u8; 8193];
     let mut policy = [0u8; 65];
     let mut table = [0u8; 1544];
     let mut text = room();
-    let bench = files::read_most(b"itinerary.bin", &mut it, 8192);
-    let classes = files::read_most(b"policy.bin", &mut policy, 64);
+    let bench = files::read_most(&rt, &err, b"itinerary.bin", &mut it, 8192);
+    let classes = files::read_most(&rt, &err, b"policy.bin", &mut policy, 64);
     if !bench.good | !classes.good {
         return;
     }
     let n = bench.len;
     let p = classes.len;
-    let r = list_made(&it[..n], &policy[..p], &mut table, &mut text);
-    files::first(&text, r);
+    let r = list_made(&err, &it[..n], &policy[..p], &mut table, &mut text);
+    files::first(&rt, &err, &text, r);
 }

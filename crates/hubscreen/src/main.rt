@@ -1,4 +1,6 @@
 // Screens itinerary.bin under policy.bin, runs script.bin, and writes the verdict, each step's answer and the end.
+#![tactic(auto)]
+
 ghost use Rattle.std.specs.Prelude.{◌≡◌, length};
 ghost use Rattle.hubscreen.specs.Lent.{answers_for};
 
@@ -18,15 +20,15 @@ fn room() -> [u8; 15408]
     [0u8; 15408]
 }
 
-fn main() {
+fn main(rt: HostRuntime) {
     let mut it = [0u8; 8193];
     let mut policy = [0u8; 65];
     let mut script = [0; 4096];
     let mut answers = [0; 1024];
     let mut text = room();
-    let i = files::load_most(b"itinerary.bin", &mut it, 8192);
-    let p = files::load_most(b"policy.bin", &mut policy, 64);
-    let l = files::load(b"script.bin", &mut script);
+    let i = files::load_most(&rt, b"itinerary.bin", &mut it, 8192);
+    let p = files::load_most(&rt, b"policy.bin", &mut policy, 64);
+    let l = files::load(&rt, b"script.bin", &mut script);
     let z = l.len;
     let n = answers_for(l);
     let r = screen_text::screen_text(
@@ -36,5 +38,5 @@ fn main() {
         &mut answers[..n],
         &mut text,
     );
-    files::first(&text, r);
+    files::first(&rt, &rt.stderr(), &text, r);
 }

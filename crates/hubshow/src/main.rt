@@ -1,5 +1,7 @@
 // Reads itinerary.bin and writes the text form of the itinerary. Where it is refused, or the file can't be read, it writes a
 // question mark, which is no text form, and the cause on standard error.
+#![tactic(auto)]
+
 ghost use Rattle.std.specs.Prelude.{◌≡◌, ◌≤◌, length};
 ghost use Rattle.text_put.specs.Puts.{over};
 ghost use Rattle.text_form.specs.Writing.{shown_text};
@@ -13,7 +15,7 @@ fn room() -> [u8; 1061888] {
 
 // Fills the text with what the program writes, by whether the file could be read, and answers its length. There is always
 // room for it: the equations hold of the arm without room only because it never comes to it.
-fn show_text(readable: bool, it: &[u8], text: &mut [u8]) -> usize
+fn show_text(err: &impl Print, readable: bool, it: &[u8], text: &mut [u8]) -> usize
     requires { 1061888 ≤ length text.old }
     ensures { (result ≡ length (shown_text readable it.now))
         × (text.new ≡ over (shown_text readable it.now) text.old)
@@ -24,7 +26,7 @@ fn show_text(readable: bool, it: &[u8], text: &mut [u8]) -> usize
     }
     match text_write::write_text(it, text) {
         TextWritten::Refused(r) => {
-            text_refusal::tell(b"hubshow", r);
+            text_refusal::tell(err, b"hubshow", r);
             text_put::put_byte(text, 0, 63)
         }
         TextWritten::Length(len) => len,
@@ -32,11 +34,12 @@ fn show_text(readable: bool, it: &[u8], text: &mut [u8]) -> usize
     }
 }
 
-fn main() {
+fn main(rt: HostRuntime) {
+    let err = rt.stderr();
     let mut it = [0u8; 8193];
     let mut text = room();
-    let file = files::read_most(b"itinerary.bin", &mut it, 8192);
+    let file = files::read_most(&rt, &err, b"itinerary.bin", &mut it, 8192);
     let n = file.len;
-    let r = show_text(file.good, &it[..n], &mut text);
-    files::first(&text, r);
+    let r = show_text(&err, file.good, &it[..n], &mut text);
+    files::first(&rt, &err, &text, r);
 }
