@@ -41,7 +41,7 @@ bounds-policy-x c =
 
 pub with_row-q-requires : goal.with_row-q-requires
 with_row-q-requires c =
-    record { table_len = c.requires.table_len; x_bound = (new (goal.at.with_row-q-requires c).In-At).below }
+    record { table_len = c.requires.table_len; x_bound = omega (arith, (new (goal.at.with_row-q-requires c).In-At).below) }
 
 pub loop-stop-smaller-then-policy-x-ne2 : goal.loop-stop-smaller-then-policy-x-ne2
 loop-stop-smaller-then-policy-x-ne2 c =
