@@ -1,6 +1,6 @@
 -- Document 01, "Lettered examples": A to H, as one list of claims about the calls.
 use Rattle.std.specs.Prelude.{◌<◌, ℕ, eqb, replicate, Bool, ◌&&◌, false, true, List, [], ◌∷◌, ◌≡◌}
-use Rattle.std.proofs.Math.Option.{some}
+use Rattle.std.specs.Prelude.{Some}
 use Rattle.model.specs.Calls.{make_after, make_answer, step_after, step_answer, validate_answer, verdict_answer}
 use Rattle.model.specs.Listing.{hubscreen}
 use Rattle.model.specs.Records.{nested}
@@ -91,7 +91,7 @@ Meets (makes s policy ones verdict) =
     (make_answer s policy blank_table ≡ done ones) × (verdict_answer s policy (make_after s policy blank_table) ≡ done verdict)
 Meets (suspecting s policy labels) = (k : ℕ) → k < 64 → suspects (make_after s policy blank_table) k ≡ is_in labels k
 Meets (steps s actor partner n later) = (number (step_answer s actor partner) ≡ n) × (step_after s actor partner ≡ later)
-Meets (writes s policy z text) = hubscreen (some s) (some policy) (some z) ≡ text
+Meets (writes s policy z text) = hubscreen (Some s) (Some policy) (Some z) ≡ text
 Meets (refuses parent n r) = (kind label name : ℕ) → right_g kind label name ≡ true → validate_answer (itinerary_g kind label name parent) ≡ refused n r
 
 -- "For case B and the script (3,1), (3,1) it writes exactly"

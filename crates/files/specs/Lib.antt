@@ -1,4 +1,3 @@
 -- What the contracts cite.
 pub mod Counts
 pub mod Filled
-pub mod Laws

@@ -2,7 +2,7 @@
 // contracts speak of the counts.
 #![tactic(auto)]
 
-ghost use Rattle.std.specs.Prelude.{◌≡◌, ◌+◌, ◌<◌, ◌≤◌, drop, length};
+ghost use Rattle.std.specs.Prelude.{◌≡◌, ◌+◌, ◌<◌, ◌≤◌, drop, length, IfOk, IfSome};
 ghost use Rattle.files.specs.Counts.{IsPrefixLen};
 ghost use Rattle.files.specs.Filled.{Filled};
 
@@ -11,7 +11,8 @@ use std::io;
 use std::io::{Cursor, Read, Write};
 use std::rt::Files;
 
-// How many bytes of a file stand in its buffer, and whether it has more.
+// How many bytes of a file stand in its buffer, and whether it has more. (An Option could not say that a file with more fills
+// the buffer.)
 #[derive(Clone, Copy)]
 pub struct Loaded {
     pub len: usize,
@@ -26,7 +27,7 @@ fn open<R: Files>(rt: &R, path: &[u8]) -> io::Result<R::File> {
     }
 }
 
-// How many bytes were read, and the error of a read that failed then.
+// How many bytes were read, and the error of a read that failed after them. (A Result would lose the one or the other.)
 #[derive(Clone, Copy)]
 pub struct FullRead {
     pub len: usize,
@@ -37,23 +38,20 @@ pub struct FullRead {
 pub fn read_full(file: &mut impl Read, buffer: &mut [u8]) -> FullRead
     ensures { IsPrefixLen result.len buffer.new }
 {
-    let mut done = 0;
-    while done < buffer.len() {
-        match file.read(&mut buffer[done..]) {
+    let mut len = 0;
+    while len < buffer.len() {
+        match file.read(&mut buffer[len..]) {
             Ok(0) => break,
-            Ok(n) => done += n,
+            Ok(n) => len += n,
             Err(e) => {
                 return FullRead {
-                    len: done,
+                    len,
                     error: Some(e),
                 };
             }
         }
     }
-    FullRead {
-        len: done,
-        error: None,
-    }
+    FullRead { len, error: None }
 }
 
 // Reads a file into the buffer, and one further byte where the buffer is full. A file that can't be opened counts as
@@ -67,15 +65,10 @@ pub fn load(rt: &impl Files, path: &[u8], buffer: &mut [u8]) -> Loaded
             more: false,
         };
     };
-    let n = read_full(&mut file, buffer).len;
-    let mut one = [0u8; 1];
-    let mut m: usize = 0;
-    if n == buffer.len() {
-        m = read_full(&mut file, &mut one).len;
-    }
+    let len = read_full(&mut file, buffer).len;
     Loaded {
-        len: n,
-        more: m == 1,
+        len,
+        more: len == buffer.len() && read_full(&mut file, &mut [0u8; 1]).len == 1,
     }
 }
 
@@ -83,21 +76,12 @@ pub fn load(rt: &impl Files, path: &[u8], buffer: &mut [u8]) -> Loaded
 // is too long is lent with the one byte too many, for the library to refuse. The bytes from max on stay as they were.
 pub fn load_most(rt: &impl Files, path: &[u8], buffer: &mut [u8], max: usize) -> usize
     requires { max < length buffer.old }
-    ensures { (IsPrefixLen result buffer.new) × (result ≤ max + 1)
-        × (drop max buffer.new ≡ drop max buffer.old) }
+    ensures counted { IsPrefixLen result buffer.new }
+    ensures most { result ≤ max + 1 }
+    ensures kept { drop max buffer.new ≡ drop max buffer.old }
 {
     let l = load(rt, path, &mut buffer[..max]);
-    if l.more {
-        return max + 1;
-    }
-    l.len
-}
-
-// How many bytes of a file are to be lent, none where it can't be read.
-#[derive(Clone, Copy)]
-pub struct FileRead {
-    pub good: bool,
-    pub len: usize,
+    if l.more { max + 1 } else { l.len }
 }
 
 // Tells on standard error, in the system's words, why something failed: an error's text without its number, which comes
@@ -112,73 +96,55 @@ fn fail(err: &impl Print, what: &[u8], e: &io::Error) {
         None => text,
     };
     let _ = err.write_all(what);
-    let _ = err.write_all(b": ");
-    let _ = err.write_all(words.as_bytes());
-    let _ = err.write_all(b"\n");
+    let _ = println!(err; ": {words}");
 }
 
-// A file that can't be read, which is told.
-fn unread(err: &impl Print, path: &[u8], e: &io::Error) -> FileRead
-    ensures { result.len ≡ 0 }
+// Reads as load_most does, and fails where the file can't be opened, or be read to its end. A byte after a part that doesn't
+// fill the buffer shows that a read before it failed, or that the file was cut short for a moment.
+fn read_lent(rt: &impl Files, path: &[u8], buffer: &mut [u8], max: usize) -> io::Result<usize>
+    requires { max < length buffer.old }
+    ensures counted { IfOk result (λ len. IsPrefixLen len buffer.new) }
+    ensures most { IfOk result (λ len. len ≤ max + 1) }
+    ensures kept { drop max buffer.new ≡ drop max buffer.old }
 {
-    fail(err, path, e);
-    FileRead {
-        good: false,
-        len: 0,
+    let mut file = open(rt, path)?;
+    let part = read_full(&mut file, &mut buffer[..max]);
+    if file.read(&mut [0u8; 1])? == 0 {
+        return Ok(part.len);
     }
+    if part.len < max {
+        let cut_short = io::Error::from(io::ErrorKind::UnexpectedEof);
+        return Err(part.error.unwrap_or(cut_short));
+    }
+    Ok(max + 1)
 }
 
-// Why a part was cut short where the file has more: the read's error, or that the file ended for a moment.
-fn cut_short(error: Option<io::Error>) -> io::Error {
-    match error {
-        Some(e) => e,
-        None => io::Error::from(io::ErrorKind::UnexpectedEof),
-    }
-}
-
-// Reads as load_most does. A file that can't be opened, or be read to its end, is told on standard error in the system's
-// words. A byte after a part that doesn't fill the buffer shows that a read before it failed; the file was then cut short
-// for a moment, and what is told is that reading failed.
+// Reads as load_most does. A file that can't be opened, or be read to its end, is none, and that is told on standard error in
+// the system's words.
 pub fn read_most(
     rt: &impl Files,
     err: &impl Print,
     path: &[u8],
     buffer: &mut [u8],
     max: usize,
-) -> FileRead
+) -> Option<usize>
     requires { max < length buffer.old }
-    ensures { (IsPrefixLen result.len buffer.new) × (result.len ≤ max + 1)
-        × (drop max buffer.new ≡ drop max buffer.old) }
+    ensures counted { IfSome result (λ len. IsPrefixLen len buffer.new) }
+    ensures most { IfSome result (λ len. len ≤ max + 1) }
+    ensures kept { drop max buffer.new ≡ drop max buffer.old }
 {
-    let mut file = match open(rt, path) {
-        Ok(file) => file,
+    match read_lent(rt, path, buffer, max) {
+        Ok(len) => Some(len),
         Err(e) => {
-            return unread(err, path, &e);
-        }
-    };
-    let part = read_full(&mut file, &mut buffer[..max]);
-    let n = part.len;
-    let mut one = [0u8; 1];
-    match file.read(&mut one) {
-        Err(e) => unread(err, path, &e),
-        Ok(0) => FileRead { good: true, len: n },
-        Ok(_) => {
-            if n < max {
-                return unread(err, path, &cut_short(part.error));
-            }
-            FileRead {
-                good: true,
-                len: max + 1,
-            }
+            fail(err, path, &e);
+            None
         }
     }
 }
 
-// Writes the first n bytes to standard output. Where not all are taken, that is told on standard error in the system's words.
-pub fn first(out: &impl Print, err: &impl Print, bytes: &[u8], n: usize)
-    requires { n ≤ length bytes.now }
-{
-    if let Err(e) = out.write_all(&bytes[..n]) {
+// Writes bytes to standard output. Where not all are taken, that is told on standard error in the system's words.
+pub fn write(out: &impl Print, err: &impl Print, bytes: &[u8]) {
+    if let Err(e) = out.write_all(bytes) {
         fail(err, b"standard output", &e);
     }
 }

@@ -1,33 +1,18 @@
-// The checks of a call as a value: a gate takes what the checks before it found, and one check more.
-#![tactic(auto)]
+// A check of a call as a value: it passes, or it refuses.
+#![tactic(auto, unfolding(model::specs::Numbers::check_as, model::specs::Refusals::need))]
 
 ghost use Rattle.std.specs.Prelude.{◌≡◌};
-ghost use Rattle.model.specs.Numbers.{checked_as, performed_as};
-ghost use Rattle.model.specs.Refusals.{◌▸◌, answer, need};
+ghost use Rattle.model.specs.Numbers.{check_as, number_of};
+ghost use Rattle.model.specs.Refusals.{need};
 
-use model::{Checked, Performed, Refusal};
+use model::{Cause, Refusal};
 
-// Refuses with the number, at no record, unless the test is true.
-pub fn need(so_far: Checked, test: bool, number: u8) -> Checked
-    ensures { checked_as result ≡ (checked_as so_far ▸ need test number 0) }
+// Refuses with the cause, at the record, unless the test is true.
+pub fn need(test: bool, cause: Cause, record: u16) -> Result<(), Refusal>
+    ensures { check_as result ≡ need test (number_of cause) «record» }
 {
-    match so_far {
-        Checked::Refuse(_) => so_far,
-        Checked::Pass => {
-            if test {
-                return Checked::Pass;
-            }
-            Checked::Refuse(Refusal { number, record: 0 })
-        }
+    if test {
+        return Ok(());
     }
-}
-
-// The answer of a call that has nothing to return but that it was done.
-pub fn performed(c: Checked) -> Performed
-    ensures { performed_as result ≡ answer (checked_as c) tt }
-{
-    match c {
-        Checked::Refuse(r) => Performed::Refused(r),
-        Checked::Pass => Performed::Done,
-    }
+    Err(Refusal { cause, record })
 }

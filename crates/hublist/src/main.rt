@@ -10,8 +10,8 @@ ghost use Rattle.model.specs.Tables.{suspects};
 ghost use Rattle.text_put.specs.Puts.{over};
 ghost use Rattle.text_form.specs.Writing.{list_of, listable, text_or};
 
-use model::{Made, Refusal};
-use text_form::TextWritten;
+use model::Refusal;
+use text_form::WriteError;
 
 // Room for the longest listing of 1,024 lines.
 fn room() -> [u8; 1075200] {
@@ -30,27 +30,27 @@ fn tell(err: &impl Print, r: Refusal) -> usize
 // hold of the arm without room only because it never comes to it.
 fn list(err: &impl Print, it: &[u8], table: &[u8], text: &mut [u8]) -> usize
     requires { 1075200 ≤ length text.old }
-    ensures { (result ≡ length (text_or [] (listable it.now table.now) (list_of (records it.now) (suspects table.now))))
-        × (text.new ≡ over (text_or [] (listable it.now table.now) (list_of (records it.now) (suspects table.now))) text.old) }
+    ensures length { result ≡ length (text_or [] (listable it.now table.now) (list_of (records it.now) (suspects table.now))) }
+    ensures bytes { text.new ≡ over (text_or [] (listable it.now table.now) (list_of (records it.now) (suspects table.now))) text.old }
 {
     match text_write::list_text(it, table, text) {
-        TextWritten::Refused(r) => tell(err, r),
-        TextWritten::Length(len) => len,
-        TextWritten::NoRoom(_) => 0,
+        Ok(len) => len,
+        Err(WriteError::Refused(r)) => tell(err, r),
+        Err(WriteError::NoRoom(_)) => 0,
     }
 }
 
 // Fills the text with what the program writes by the table that it makes, and answers its length.
 fn list_made(err: &impl Print, it: &[u8], policy: &[u8], table: &mut [u8], text: &mut [u8]) -> usize
     requires { 1075200 ≤ length text.old }
-    ensures { (result ≡ length (listed it.now policy.now table.old))
-        × (text.new ≡ over (listed it.now policy.now table.old) text.old)
-        × (table.new ≡ make_after it.now policy.now table.old)
-        × (result ≤ length text.new) }
+    ensures length { result ≡ length (listed it.now policy.now table.old) }
+    ensures bytes { text.new ≡ over (listed it.now policy.now table.old) text.old }
+    ensures table { table.new ≡ make_after it.now policy.now table.old }
+    ensures within { result ≤ length text.new }
 {
     match calls::make(it, policy, table) {
-        Made::Refused(r) => tell(err, r),
-        Made::Done(_) => list(err, it, table, text),
+        Ok(_) => list(err, it, table, text),
+        Err(r) => tell(err, r),
     }
 }
 
@@ -62,11 +62,9 @@ fn main(rt: HostRuntime) {
     let mut text = room();
     let bench = files::read_most(&rt, &err, b"itinerary.bin", &mut it, 8192);
     let classes = files::read_most(&rt, &err, b"policy.bin", &mut policy, 64);
-    if !bench.good | !classes.good {
+    let (Some(n), Some(p)) = (bench, classes) else {
         return;
-    }
-    let n = bench.len;
-    let p = classes.len;
+    };
     let r = list_made(&err, &it[..n], &policy[..p], &mut table, &mut text);
-    files::first(&rt, &err, &text, r);
+    files::write(&rt, &err, &text[..r]);
 }

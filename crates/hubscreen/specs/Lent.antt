@@ -4,7 +4,7 @@ use borrow.Author.Tests.{eqb-true, le-leb, leb-true, lt-leb, ne_eqb}
 use Rattle.std.proofs.Math.ListN.{length, length-replicate}
 use Rattle.std.proofs.Common.{length-take-le, take_all, ◌∙◌, ap, sym, arith}
 use Rattle.std.proofs.Math.Bool.{and-false}
-use Rattle.std.proofs.Math.Option.{Option}
+use Rattle.std.specs.Prelude.{Option}
 use Rattle.std.proofs.Math.Decide.{dec_le}
 use Rattle.listing.specs.Lines.{shown}
 use Rattle.model.specs.Calls.{entry, screen_answer, screen_answers, screening}

@@ -38,5 +38,5 @@ fn main(rt: HostRuntime) {
         &mut answers[..n],
         &mut text,
     );
-    files::first(&rt, &rt.stderr(), &text, r);
+    files::write(&rt, &rt.stderr(), &text[..r]);
 }

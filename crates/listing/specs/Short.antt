@@ -2,7 +2,7 @@
 -- at most 20 for line one and 28 for the last. A refusal's one line has at most 20.
 use Rattle.std.specs.Prelude.{◌*◌, ◌≤◌, ℕ, length, Bool, false, true, List, [], ◌∷◌, ◌≡◌, refl}
 use Rattle.std.proofs.Common.{length-append, ap, arith}
-use Rattle.std.proofs.Math.Option.{Option, none, some}
+use Rattle.std.specs.Prelude.{Option, None, Some}
 use Rattle.model.specs.Analysis.{Permit, permit_all}
 use Rattle.model.specs.Calls.{screen_answer, screen_answers, screening}
 use Rattle.model.proofs.Laws.Checks.{answer-done, need-pass, then-pass}
@@ -30,8 +30,8 @@ decide-few k true true = omega arith
 
 by-few : (permit : Permit) (k : Option Capability) (its : List Rec) (c b : ℕ) → answer_of (outcome_by permit k its c b) ≤ 12
 unfolding answer_of outcome_by
-by-few permit none its c b = omega arith
-by-few permit (some k) its c b = decide-few k _ _
+by-few permit None its c b = omega arith
+by-few permit (Some k) its c b = decide-few k _ _
 
 pub answer-few : (permit : Permit) (its : List Rec) (c b : ℕ) → answer_of (outcome permit its c b) ≤ 12
 unfolding outcome

@@ -23,19 +23,16 @@ fn put_step(text: &mut [u8], at: usize, actor: u16, partner: u16, answer: u8) ->
 
 // Puts a line for each step of a script that was run.
 fn put_steps(text: &mut [u8], at: usize, script: &[u8], answers: &[u8]) -> usize
-    requires { (script_right script.now (length answers.now) ≡ true)
-        × (at + length (step_lines (steps_in script.now) answers.now []) ≤ length text.old) }
+    requires right { script_right script.now (length answers.now) ≡ true }
+    requires fits { at + length (step_lines (steps_in script.now) answers.now []) ≤ length text.old }
     ensures { Put text.old at (step_lines (steps_in script.now) answers.now []) text.new result }
 {
-    let n = answers.len();
     let mut end = at;
-    let mut k: usize = 0;
-    while k < n {
+    for k in 0..answers.len() {
         let j = 4 * k;
         let actor = records::word(script[j], script[j + 1]);
         let partner = records::word(script[j + 2], script[j + 3]);
         end = put_step(text, end, actor, partner, answers[k]);
-        k += 1;
     }
     end
 }
@@ -69,13 +66,13 @@ pub fn put_refused(text: &mut [u8], r: Refusal) -> usize
     requires { 20 ≤ length text.old }
     ensures { Put text.old 0 (listing (refusal r) [] []) text.new result }
 {
-    text_put::put_line(text, b"refused ", r.number as u16, r.record)
+    text_put::put_line(text, b"refused ", r.cause.number() as u16, r.record)
 }
 
 // Puts line one, a line for each step, and the last line.
 pub fn put_screen(text: &mut [u8], s: Screen, script: &[u8], answers: &[u8]) -> usize
-    requires { (script_right script.now (length answers.now) ≡ true)
-        × (48 + length (step_lines (steps_in script.now) answers.now []) ≤ length text.old) }
+    requires right { script_right script.now (length answers.now) ≡ true }
+    requires fits { 48 + length (step_lines (steps_in script.now) answers.now []) ≤ length text.old }
     ensures { Put text.old 0 (listing (done s) (steps_in script.now) answers.now) text.new result }
 {
     let v = s.verdict;

@@ -1,6 +1,6 @@
 -- Document 01, "When a table holds": the control flow analysis with suspects.
 use Rattle.std.specs.Prelude.{suc, ℕ, length, Bool, ◌&&◌, false, true, List}
-use Rattle.std.proofs.Math.Option.{Option, none, some}
+use Rattle.std.specs.Prelude.{Option, None, Some}
 use Rattle.model.specs.Climbing.{container}
 use Rattle.model.specs.Finite.{every}
 use Rattle.model.specs.Records.{Capability, at, cap-in, cap-open, cap-out, capability, is_ambient, nested}
@@ -46,8 +46,8 @@ rule_holds permit T cap-open t n =
 
 -- the rule of a record, where it is a capability
 unfoldable pub rules_hold : Permit → Table → Option Capability → Rec → Bool
-rules_hold permit T none r = true
-rules_hold permit T (some k) r = rule_holds permit T k r.label r.name
+rules_hold permit T None r = true
+rules_hold permit T (Some k) r = rule_holds permit T k r.label r.name
 
 -- "for each ambient or capability, (container, label) is in I; for each ambient, (label, name) is in H";
 -- "for each capability record, standing anywhere" its rule

@@ -1,6 +1,6 @@
 -- Bounded loops that compute: for every number, for some number, the lowest number, a list from its entries.
 use Rattle.std.specs.Prelude.{◌+◌, suc, zero, ℕ, eqb, Bool, false, not, true, List, [], ◌∷◌}
-use Rattle.std.proofs.Math.Option.{Option, none, some}
+use Rattle.std.specs.Prelude.{Option, None, Some}
 
 -- f holds of every number below n that passes the test t
 unfoldable pub every : ℕ → (ℕ → Bool) → (ℕ → Bool) → Bool
@@ -14,8 +14,8 @@ some_of (suc n) t f = elim (t n) [ false ↦ some_of n t f | true ↦ elim (f n)
 
 -- the lowest of the n numbers from i on that passes the test t
 unfoldable pub lowest : (ℕ → Bool) → ℕ → ℕ → Option ℕ
-lowest t i zero = none
-lowest t i (suc n) = elim (t i) [ true ↦ some i | false ↦ lowest t (suc i) n ]
+lowest t i zero = None
+lowest t i (suc n) = elim (t i) [ true ↦ Some i | false ↦ lowest t (suc i) n ]
 
 -- f i, f (i + 1), .., n entries in all
 unfoldable pub tabulate : {A : Type 0} → ℕ → ℕ → (ℕ → A) → List A

@@ -1,6 +1,6 @@
 -- Document 01, "The program `hubscreen`": what it writes, from what its three files hold.
 use Rattle.std.specs.Prelude.{◌%◌, ◌+◌, ◌/◌, suc, zero, ℕ, leb, length, replicate, false, true, List, [], ◌++◌, ◌∷◌}
-use Rattle.std.proofs.Math.Option.{Option, none, some}
+use Rattle.std.specs.Prelude.{Option, None, Some}
 use Rattle.model.specs.Calls.{screen_answer, screen_answers}
 use Rattle.model.specs.Refusals.{Answer, done, refused}
 use Rattle.model.specs.Scripts.{Step, steps_in}
@@ -11,8 +11,8 @@ use Rattle.model.specs.declared.Verdict.TheVariants.{Exposed, Hinted, Sealed}
 
 -- "A file that can't be opened counts as empty"
 unfoldable pub content_of : Option (List ℕ) → List ℕ
-content_of none = []
-content_of (some bytes) = bytes
+content_of None = []
+content_of (Some bytes) = bytes
 
 -- the digits of a number below 10 ^ k, as ASCII
 unfoldable pub digits_in : ℕ → ℕ → List ℕ

@@ -1,93 +1,53 @@
--- For each answer enum of the code: 01's number, record and values for each of its cases.
-use Rattle.std.specs.Prelude.{ℕ, Bool, List}
+-- The answers of the code, each a Result: 01's number, record and values for each of its cases.
+use Rattle.std.specs.Prelude.{ℕ, Result, Ok, Err}
 use Rattle.model.specs.Refusals.{Check, pass, refuse, Answer, done, refused}
-use Rattle.model.specs.Records.{decode}
-use Rattle.model.specs.Validity.{record_check}
-use Rattle.model.specs.declared.Rec.{Rec}
-use Rattle.model.specs.declared.Reading.{Reading}
-use Rattle.model.specs.declared.Reading.TheVariants as reading
-use Rattle.model.specs.declared.Screen.{Screen}
-use Rattle.model.specs.declared.Screened.{Screened}
-use Rattle.model.specs.declared.Screened.TheVariants as screened
+use Rattle.model.specs.Steps.{Outcome, done-by, refused-with}
+use Rattle.model.specs.declared.Capability.{Capability}
+use Rattle.model.specs.declared.Cause.{Cause}
+use Rattle.model.specs.declared.Cause.TheVariants as cause
 use Rattle.model.specs.declared.Refusal.{Refusal}
 use Rattle.model.specs.declared.Verdict.{Verdict}
 use Rattle.model.specs.declared.Verdict.TheVariants as verdict
-use Rattle.model.specs.declared.Counts.{Counts}
-use Rattle.model.specs.declared.Checked.{Checked}
-use Rattle.model.specs.declared.Checked.TheVariants as checked
-use Rattle.model.specs.declared.Performed.{Performed}
-use Rattle.model.specs.declared.Performed.TheVariants as performed
-use Rattle.model.specs.declared.Validated.{Validated}
-use Rattle.model.specs.declared.Validated.TheVariants as validated
-use Rattle.model.specs.declared.Above.{Above}
-use Rattle.model.specs.declared.Climbed.{Climbed}
-use Rattle.model.specs.declared.Climbed.TheVariants as climbed
-use Rattle.model.specs.declared.Made.{Made}
-use Rattle.model.specs.declared.Made.TheVariants as made
-use Rattle.model.specs.declared.Judged.{Judged}
-use Rattle.model.specs.declared.Judged.TheVariants as judged
-use Rattle.model.specs.declared.Exposure.{Exposure}
-use Rattle.model.specs.declared.Exposure.TheVariants as exposure
-use Rattle.model.specs.declared.Ran.{Ran}
-use Rattle.model.specs.declared.Ran.TheVariants as ran
 
--- by the check of a record
-unfoldable pub reading_by : Check → Rec → Reading
-reading_by pass r = reading.Record r
-reading_by (refuse n i) r = reading.Refused n
+-- 01's "Refusal table": the number of each cause
+unfoldable pub number_of : Cause → ℕ
+number_of cause.Length = 1
+number_of cause.Form = 2
+number_of cause.Label = 3
+number_of cause.Name = 4
+number_of cause.Parent = 5
+number_of cause.Climb = 6
+number_of cause.Policy = 7
+number_of cause.Table = 8
+number_of cause.Holds = 9
+number_of cause.Actor = 10
+number_of cause.Active = 11
+number_of cause.Partner = 12
+number_of cause.Script = 13
+number_of cause.Sheet = 14
 
--- "Each record's reading is an enum, record or refusal": record i, or the number of the first of 2 to 5 that it breaks
-unfoldable pub reading_of : List ℕ → ℕ → Reading
-reading_of s i = reading_by (record_check s i) (decode s i)
+-- the refusal of a cause that is no record's: "record 0"
+unfoldable pub unplaced : Cause → Refusal
+unplaced c = record { cause = c; «record» = 0 }
 
 -- "number, record"
 unfoldable pub refusal : {A : Type 0} → Refusal → Answer A
-refusal r = refused r.number r.record
+refusal r = refused (number_of r.cause) r.«record»
 
--- what the checks of a call found
-unfoldable pub checked_as : Checked → Check
-checked_as checked.Pass = pass
-checked_as (checked.Refuse r) = refuse r.number r.record
+-- what the checks of a call found: they pass, or the first of them that refuses
+unfoldable pub check_as : {A : Type 0} → Result A Refusal → Check
+check_as (Ok x) = pass
+check_as (Err r) = refuse (number_of r.cause) r.«record»
 
--- step, sheet, table check: nothing but that it was done
-unfoldable pub performed_as : Performed → Answer (Unit {0})
-performed_as performed.Done = done tt
-performed_as (performed.Refused r) = refusal r
+-- the answer of a call: what it returns, or its refusal
+unfoldable pub answer_as : {A : Type 0} → Result A Refusal → Answer A
+answer_as (Ok x) = done x
+answer_as (Err r) = refusal r
 
--- the number of records
-unfoldable pub validated_as : Validated → Answer ℕ
-validated_as (validated.Done n) = done n
-validated_as (validated.Refused r) = refusal r
-
--- the container's label and the boundary's number
-unfoldable pub climbed_as : Climbed → Answer Above
-climbed_as (climbed.Done a) = done a
-climbed_as (climbed.Refused r) = refusal r
-
--- the count of ones
-unfoldable pub made_as : Made → Answer ℕ
-made_as (made.Done n) = done n
-made_as (made.Refused r) = refusal r
-
--- the verdict with its label
-unfoldable pub judged_as : Judged → Answer Verdict
-judged_as (judged.Done v) = done v
-judged_as (judged.Refused r) = refusal r
-
--- whether the verdict is exposed
-unfoldable pub exposure_as : Exposure → Answer Bool
-exposure_as (exposure.Done b) = done b
-exposure_as (exposure.Refused r) = refusal r
-
--- ins, outs and opens done
-unfoldable pub ran_as : Ran → Answer Counts
-ran_as (ran.Done n) = done n
-ran_as (ran.Refused r) = refusal r
-
--- verdict, bits set, counts, records not gone
-unfoldable pub screened_as : Screened → Answer Screen
-screened_as (screened.Done x) = done x
-screened_as (screened.Refused r) = refusal r
+-- what becomes of a step: done, by which capability, or refused, with its number
+unfoldable pub outcome_as : Result Capability Cause → Outcome
+outcome_as (Ok k) = done-by k
+outcome_as (Err c) = refused-with (number_of c)
 
 -- which verdict it is: 01's "exposed", "hinted", "sealed" as the numbers 1, 2, 3 of the C interface
 unfoldable pub verdict_code : Verdict → ℕ

@@ -3,7 +3,7 @@
 -- Then which process an itinerary is, and demand 2's "Steps follow the published rules of Mobile Ambients."
 -- It is proved in Laws/Adequacy.
 use Rattle.std.specs.Prelude.{◌+◌, suc, zero, ℕ, eqb, replicate, true, List, [], ◌∷◌, ◌≢◌, ◌≡◌}
-use Rattle.std.proofs.Math.Option.{some}
+use Rattle.std.specs.Prelude.{Some}
 use Rattle.model.specs.Analysis.{Permit, permit_all}
 use Rattle.model.specs.Calls.{step_after, step_answer, validate_answer}
 use Rattle.model.specs.Finite.{one_if}
@@ -76,7 +76,7 @@ pub data Chain (permit : Permit) : ℕ → Process → Process → Type 0 where
 -- a record is an ambient or a capability with its label and name
 pub data Says (r : Rec) : Head → Type 0 where
   says-ambient : {l n : ℕ} → is_ambient r ≡ true → r.label ≡ l → r.name ≡ n → Says r (ambient l n)
-  says-cap : {k : Capability} {l n : ℕ} → capability r.kind ≡ some k → r.label ≡ l → r.name ≡ n → Says r (cap k l n)
+  says-cap : {k : Capability} {l n : ℕ} → capability r.kind ≡ Some k → r.label ≡ l → r.name ≡ n → Says r (cap k l n)
 
 -- P is read from records whose parent is q: "Children of one parent stand in parallel; a capability's children are what
 -- follows it."

@@ -1,7 +1,7 @@
 -- Document 01, "Itinerary records". 01's "itinerary" is a list of bytes s; `its` is the list of its records.
 -- 01's "environment" is number 0.
 use Rattle.std.specs.Prelude.{◌%◌, ◌*◌, ◌+◌, ◌/◌, suc, zero, ℕ, eqb, leb, get_or, length, Bool, ◌&&◌, List, [], ◌∷◌}
-use Rattle.std.proofs.Math.Option.{Option, none, some}
+use Rattle.std.specs.Prelude.{Option, None, Some}
 use Rattle.model.specs.Finite.{tabulate}
 use Rattle.model.specs.declared.Rec.{Rec}
 -- "Kinds 2 to 4 are capabilities.": the code's enum
@@ -66,12 +66,12 @@ is_ambient r = eqb r.kind 1
 
 -- "2 in, 3 out, 4 open"
 unfoldable pub capability : ℕ → Option Capability
-capability zero = none
-capability (suc zero) = none
-capability (suc (suc zero)) = some cap-in
-capability (suc (suc (suc zero))) = some cap-out
-capability (suc (suc (suc (suc zero)))) = some cap-open
-capability (suc (suc (suc (suc (suc k))))) = none
+capability zero = None
+capability (suc zero) = None
+capability (suc (suc zero)) = Some cap-in
+capability (suc (suc (suc zero))) = Some cap-out
+capability (suc (suc (suc (suc zero)))) = Some cap-open
+capability (suc (suc (suc (suc (suc k))))) = None
 
 -- "each ambient or capability": the records that a table speaks of
 unfoldable pub nested : Rec → Bool

@@ -1,14 +1,16 @@
 -- Document 01, "Steps".
 use Rattle.std.specs.Prelude.{ℕ, eqb, Bool, ◌&&◌, false, true, List}
-use Rattle.std.proofs.Math.Option.{Option, none, some}
+use Rattle.std.specs.Prelude.{Option, None, Some}
 use Rattle.model.specs.Analysis.{Permit}
 use Rattle.model.specs.Climbing.{ambients}
 use Rattle.model.specs.Finite.{unequal}
 use Rattle.model.specs.Records.{Capability, at, cap-in, cap-open, cap-out, capability, encode, gone, is_ambient, parent_of, records, update}
 use Rattle.model.specs.declared.Rec.{Rec}
--- what becomes of a step: done, by which capability, or refused with a number; the code's enum
-pub use Rattle.model.specs.declared.Outcome.{Outcome}
-pub use Rattle.model.specs.declared.Outcome.TheVariants.{Done as done-by, Refused as refused-with}
+
+-- what becomes of a step: done, by which capability, or refused with a number
+pub data Outcome : Type 0 where
+  done-by : Capability → Outcome
+  refused-with : ℕ → Outcome
 
 -- the record with another parent
 abbrev pub to : ℕ → Rec → Rec
@@ -69,8 +71,8 @@ decide k true true = done-by k
 
 -- 10: "actor 0, over the count, or no capability"
 unfoldable pub outcome_by : Permit → Option Capability → List Rec → ℕ → ℕ → Outcome
-outcome_by permit none its c b = refused-with 10
-outcome_by permit (some k) its c b = decide k (ready k its (parent_of its c)) (fit permit k its c b)
+outcome_by permit None its c b = refused-with 10
+outcome_by permit (Some k) its c b = decide k (ready k its (parent_of its c)) (fit permit k its c b)
 
 -- the outcome of a step by the actor c with the partner b
 unfoldable pub outcome : Permit → List Rec → ℕ → ℕ → Outcome

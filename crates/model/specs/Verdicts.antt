@@ -1,7 +1,7 @@
 -- Document 01, "Verdict"; document 02, Job 1.
 use Rattle.std.specs.Prelude.{suc, zero, ℕ, eqb, get_or, Bool, ◌&&◌, ◌||◌, false, not, true, List, [], ◌∷◌}
 use Rattle.std.specs.Bool.{beq}
-use Rattle.std.proofs.Math.Option.{Option, none, some}
+use Rattle.std.specs.Prelude.{Option, None, Some}
 use Rattle.model.specs.Finite.{lowest, some_of, tabulate}
 use Rattle.model.specs.Tables.{Table, is_boundary, is_high}
 use Rattle.model.specs.declared.Verdict.{Verdict}
@@ -44,9 +44,9 @@ in_r T policy k = marked (reached 64 (opening T policy)) k
 
 -- 01's verdicts: "exposed with the lowest such label. Otherwise .. hinted with the lowest label of both. Otherwise sealed."
 unfoldable pub verdict_by : Option ℕ → Option ℕ → Verdict
-verdict_by (some k) both = Exposed k
-verdict_by none (some k) = Hinted k
-verdict_by none none = Sealed
+verdict_by (Some k) both = Exposed k
+verdict_by None (Some k) = Hinted k
+verdict_by None None = Sealed
 
 -- "If a high label is in R", "if S and R meet"
 unfoldable pub verdict_of : Table → List ℕ → Verdict

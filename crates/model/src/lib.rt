@@ -1,8 +1,15 @@
 // The types that the contracts name. What they mean is in specs/.
-#![tactic(auto)]
+#![tactic(auto, unfolding(crate::specs::Numbers::number_of, crate::specs::Numbers::unplaced, crate::specs::Records::is_ambient, crate::specs::Records::nested, crate::specs::Records::capability))]
 
-// A record of an itinerary: an ambient, a capability, or gone.
-#[derive(Clone, Copy)]
+ghost use Rattle.std.specs.Prelude.{◌≡◌};
+ghost use Rattle.model.specs.Numbers.{number_of, unplaced};
+ghost use Rattle.model.specs.Records.{capability, is_ambient, nested};
+
+use std::fmt;
+
+// A record of an itinerary: an ambient, a capability, or gone. It is what the bytes say, before any check: a kind is the byte
+// itself, and any byte may stand there.
+#[derive(Clone, Copy, PartialEq, Eq)]
 pub struct Rec {
     pub kind: u8,
     pub label: u8,
@@ -10,23 +17,44 @@ pub struct Rec {
     pub parent: u16,
 }
 
+impl Rec {
+    // Whether it is an ambient.
+    pub fn is_ambient(self) -> bool
+        ensures { result ≡ is_ambient self }
+    {
+        self.kind == 1
+    }
+
+    // Whether it is an ambient or a capability.
+    pub fn is_nested(self) -> bool
+        ensures { result ≡ nested self }
+    {
+        (1 <= self.kind) & (self.kind <= 4)
+    }
+
+    // Which capability it is, if one.
+    pub fn capability(self) -> Option<Capability>
+        ensures { result ≡ capability self.kind }
+    {
+        match self.kind {
+            2 => Some(Capability::In),
+            3 => Some(Capability::Out),
+            4 => Some(Capability::Open),
+            _ => None,
+        }
+    }
+}
+
 // What a capability does.
-#[derive(Clone, Copy)]
+#[derive(Clone, Copy, PartialEq, Eq)]
 pub enum Capability {
     In,
     Out,
     Open,
 }
 
-// What becomes of a step: done, by which capability, or refused, with its number.
-#[derive(Clone, Copy)]
-pub enum Outcome {
-    Done(Capability),
-    Refused(u8),
-}
-
 // How many in, out and open steps a script run did.
-#[derive(Clone, Copy)]
+#[derive(Clone, Copy, PartialEq, Eq)]
 pub struct Counts {
     pub ins: u16,
     pub outs: u16,
@@ -34,103 +62,92 @@ pub struct Counts {
 }
 
 // The screen's finding about an itinerary, a policy and a table, with the lowest label that shows it.
-#[derive(Clone, Copy)]
+#[derive(Clone, Copy, PartialEq, Eq)]
 pub enum Verdict {
     Exposed(u8),
     Hinted(u8),
     Sealed,
 }
 
-// A refusal: the number of its cause, and the record it was found at, 0 where it is none's.
-#[derive(Clone, Copy)]
+// The cause of a refusal, by its number.
+#[derive(Clone, Copy, PartialEq, Eq)]
+pub enum Cause {
+    Length = 1,
+    Form = 2,
+    Label = 3,
+    Name = 4,
+    Parent = 5,
+    Climb = 6,
+    Policy = 7,
+    Table = 8,
+    Holds = 9,
+    Actor = 10,
+    Active = 11,
+    Partner = 12,
+    Script = 13,
+    Sheet = 14,
+}
+
+impl Cause {
+    // The number that the formats and callers in other languages have for it.
+    pub fn number(self) -> u8
+        ensures { result ≡ number_of self }
+    {
+        self as u8
+    }
+}
+
+impl fmt::Display for Cause {
+    fn fmt<W: fmt::Write>(&self, f: &mut fmt::Formatter<W>) -> fmt::Result {
+        f.write_str(match self {
+            Cause::Length => "itinerary length no multiple of 8, or over 8,192",
+            Cause::Form => "kind over 4, a spare byte not 0, or a gone record not all 0",
+            Cause::Label => "label wrong for its kind",
+            Cause::Name => "name over 63",
+            Cause::Parent => "parent over the record count, or a record of kind 0",
+            Cause::Climb => "climbing doesn't reach 0",
+            Cause::Policy => "policy not 64 bytes, a byte over 2, or byte 0 not 0",
+            Cause::Table => "table not 1,544 bytes, bit 0 of a row of I set, or row 0 of H not 0",
+            Cause::Holds => "table doesn't hold",
+            Cause::Actor => "actor 0, over the count, or no capability",
+            Cause::Active => "actor inactive, or in/out without an ambient as parent",
+            Cause::Partner => "partner unfit for any cause",
+            Cause::Script =>
+                "script length no multiple of 4, over 4,096, or answers not one byte a step",
+            Cause::Sheet => "sheet not of the itinerary's length",
+        })
+    }
+}
+
+// A refusal: its cause, and the record it was found at, 0 where it is none's.
+#[derive(Clone, Copy, PartialEq, Eq)]
 pub struct Refusal {
-    pub number: u8,
+    pub cause: Cause,
     pub record: u16,
 }
 
-// What the checks of a call have found so far: they pass, or the first of them that refuses.
-#[derive(Clone, Copy)]
-pub enum Checked {
-    Pass,
-    Refuse(Refusal),
-}
+impl From<Cause> for Refusal {
+    ghost from_gives = { λ c r. r ≡ unplaced c };
 
-// What reading a record finds: the record, or the number of the first limit it breaks.
-#[derive(Clone, Copy)]
-pub enum Reading {
-    Record(Rec),
-    Refused(u8),
-}
-
-// The answer of a call that has nothing to return but that it was done: step, sheet, table check.
-#[derive(Clone, Copy)]
-pub enum Performed {
-    Done,
-    Refused(Refusal),
-}
-
-// The answer of the validation: the number of records.
-#[derive(Clone, Copy)]
-pub enum Validated {
-    Done(u16),
-    Refused(Refusal),
+    // A cause that is no record's.
+    fn from(cause: Cause) -> Refusal {
+        Refusal { cause, record: 0 }
+    }
 }
 
 // What a climb finds above a record: the label of the nearest ambient and the number of the nearest boundary ambient, 0 for
 // none.
-#[derive(Clone, Copy)]
+#[derive(Clone, Copy, PartialEq, Eq)]
 pub struct Above {
     pub label: u8,
     pub boundary: u16,
 }
 
-// The answer of a climb.
-#[derive(Clone, Copy)]
-pub enum Climbed {
-    Done(Above),
-    Refused(Refusal),
-}
-
-// The answer of the maker: how many bits of the table are one.
-#[derive(Clone, Copy)]
-pub enum Made {
-    Done(u16),
-    Refused(Refusal),
-}
-
-// The answer of the verdict.
-#[derive(Clone, Copy)]
-pub enum Judged {
-    Done(Verdict),
-    Refused(Refusal),
-}
-
-// The answer to whether the verdict is exposed.
-#[derive(Clone, Copy)]
-pub enum Exposure {
-    Done(bool),
-    Refused(Refusal),
-}
-
-// The answer of a script run.
-#[derive(Clone, Copy)]
-pub enum Ran {
-    Done(Counts),
-    Refused(Refusal),
-}
-
 // What hubscreen shows of an itinerary: the verdict, the table's bits set, the steps done and the records not gone.
-#[derive(Clone, Copy)]
+#[derive(Clone, Copy, PartialEq, Eq)]
 pub struct Screen {
     pub verdict: Verdict,
     pub ones: u16,
     pub counts: Counts,
     pub records: u16,
-}
-
-// The answer of the screen.
-#[derive(Clone, Copy)]
-pub enum Screened {
-    Done(Screen),
-    Refused(Refusal),
 }

@@ -1,3 +1,2 @@
 -- What the inner contracts cite, and laws that the proofs cite.
-pub mod Marks
 pub mod Laws

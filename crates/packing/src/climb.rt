@@ -1,34 +1,33 @@
 // The climb: the container's label, and the number of the nearest boundary ambient.
 ghost use Rattle.std.specs.Prelude.{◌≡◌};
-ghost use Rattle.model.specs.Numbers.{climbed_as};
+ghost use Rattle.model.specs.Numbers.{answer_as};
 ghost use Rattle.packing.specs.Packing.{climb_result};
 
-use model::Climbed;
+use crate::status::HubStatus;
+use model::{Above, Refusal};
 
 #[repr(C)]
-#[derive(Clone, Copy)]
+#[derive(Clone, Copy, Default)]
 pub struct HubClimbResult {
-    pub number: u32,
-    pub record: u32,
+    pub status: HubStatus,
     pub label: u32,
     pub boundary: u32,
 }
 
-pub fn pack(v: Climbed) -> HubClimbResult
-    ensures { result ≡ climb_result (climbed_as v) }
-{
-    match v {
-        Climbed::Done(a) => HubClimbResult {
-            number: 0,
-            record: 0,
-            label: a.label as u32,
-            boundary: a.boundary as u32,
-        },
-        Climbed::Refused(r) => HubClimbResult {
-            number: r.number as u32,
-            record: r.record as u32,
-            label: 0,
-            boundary: 0,
-        },
+impl From<Result<Above, Refusal>> for HubClimbResult {
+    ghost from_gives = { λ r h. h ≡ climb_result (answer_as r) };
+
+    fn from(r: Result<Above, Refusal>) -> HubClimbResult {
+        match r {
+            Ok(a) => HubClimbResult {
+                label: a.label as u32,
+                boundary: a.boundary as u32,
+                ..HubClimbResult::default()
+            },
+            Err(r) => HubClimbResult {
+                status: r.into(),
+                ..HubClimbResult::default()
+            },
+        }
     }
 }

@@ -1,31 +1,31 @@
 // The maker: how many bits of the table are one.
 ghost use Rattle.std.specs.Prelude.{◌≡◌};
-ghost use Rattle.model.specs.Numbers.{made_as};
+ghost use Rattle.model.specs.Numbers.{answer_as};
 ghost use Rattle.packing.specs.Packing.{make_result};
 
-use model::Made;
+use crate::status::HubStatus;
+use model::Refusal;
 
 #[repr(C)]
-#[derive(Clone, Copy)]
+#[derive(Clone, Copy, Default)]
 pub struct HubMakeResult {
-    pub number: u32,
-    pub record: u32,
+    pub status: HubStatus,
     pub bits: u32,
 }
 
-pub fn pack(v: Made) -> HubMakeResult
-    ensures { result ≡ make_result (made_as v) }
-{
-    match v {
-        Made::Done(n) => HubMakeResult {
-            number: 0,
-            record: 0,
-            bits: n as u32,
-        },
-        Made::Refused(r) => HubMakeResult {
-            number: r.number as u32,
-            record: r.record as u32,
-            bits: 0,
-        },
+impl From<Result<u16, Refusal>> for HubMakeResult {
+    ghost from_gives = { λ r h. h ≡ make_result (answer_as r) };
+
+    fn from(r: Result<u16, Refusal>) -> HubMakeResult {
+        match r {
+            Ok(n) => HubMakeResult {
+                bits: n as u32,
+                ..HubMakeResult::default()
+            },
+            Err(r) => HubMakeResult {
+                status: r.into(),
+                ..HubMakeResult::default()
+            },
+        }
     }
 }

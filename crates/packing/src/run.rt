@@ -1,37 +1,32 @@
 // The script run: the ins, outs and opens done.
 ghost use Rattle.std.specs.Prelude.{◌≡◌};
-ghost use Rattle.model.specs.Numbers.{ran_as};
+ghost use Rattle.model.specs.Numbers.{answer_as};
 ghost use Rattle.packing.specs.Packing.{run_result};
 
-use model::Ran;
+use crate::counts::HubCounts;
+use crate::status::HubStatus;
+use model::{Counts, Refusal};
 
 #[repr(C)]
-#[derive(Clone, Copy)]
+#[derive(Clone, Copy, Default)]
 pub struct HubRunResult {
-    pub number: u32,
-    pub record: u32,
-    pub ins: u32,
-    pub outs: u32,
-    pub opens: u32,
+    pub status: HubStatus,
+    pub counts: HubCounts,
 }
 
-pub fn pack(v: Ran) -> HubRunResult
-    ensures { result ≡ run_result (ran_as v) }
-{
-    match v {
-        Ran::Done(c) => HubRunResult {
-            number: 0,
-            record: 0,
-            ins: c.ins as u32,
-            outs: c.outs as u32,
-            opens: c.opens as u32,
-        },
-        Ran::Refused(r) => HubRunResult {
-            number: r.number as u32,
-            record: r.record as u32,
-            ins: 0,
-            outs: 0,
-            opens: 0,
-        },
+impl From<Result<Counts, Refusal>> for HubRunResult {
+    ghost from_gives = { λ r h. h ≡ run_result (answer_as r) };
+
+    fn from(r: Result<Counts, Refusal>) -> HubRunResult {
+        match r {
+            Ok(c) => HubRunResult {
+                counts: c.into(),
+                ..HubRunResult::default()
+            },
+            Err(r) => HubRunResult {
+                status: r.into(),
+                ..HubRunResult::default()
+            },
+        }
     }
 }

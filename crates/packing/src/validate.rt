@@ -1,31 +1,31 @@
 // Validation: the number of records.
 ghost use Rattle.std.specs.Prelude.{◌≡◌};
-ghost use Rattle.model.specs.Numbers.{validated_as};
+ghost use Rattle.model.specs.Numbers.{answer_as};
 ghost use Rattle.packing.specs.Packing.{validate_result};
 
-use model::Validated;
+use crate::status::HubStatus;
+use model::Refusal;
 
 #[repr(C)]
-#[derive(Clone, Copy)]
+#[derive(Clone, Copy, Default)]
 pub struct HubValidateResult {
-    pub number: u32,
-    pub record: u32,
+    pub status: HubStatus,
     pub records: u32,
 }
 
-pub fn pack(v: Validated) -> HubValidateResult
-    ensures { result ≡ validate_result (validated_as v) }
-{
-    match v {
-        Validated::Done(n) => HubValidateResult {
-            number: 0,
-            record: 0,
-            records: n as u32,
-        },
-        Validated::Refused(r) => HubValidateResult {
-            number: r.number as u32,
-            record: r.record as u32,
-            records: 0,
-        },
+impl From<Result<u16, Refusal>> for HubValidateResult {
+    ghost from_gives = { λ r h. h ≡ validate_result (answer_as r) };
+
+    fn from(r: Result<u16, Refusal>) -> HubValidateResult {
+        match r {
+            Ok(n) => HubValidateResult {
+                records: n as u32,
+                ..HubValidateResult::default()
+            },
+            Err(r) => HubValidateResult {
+                status: r.into(),
+                ..HubValidateResult::default()
+            },
+        }
     }
 }

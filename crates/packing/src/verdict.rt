@@ -1,35 +1,32 @@
 // The verdict: which one, and its label, 0 if sealed.
 ghost use Rattle.std.specs.Prelude.{◌≡◌};
-ghost use Rattle.model.specs.Numbers.{judged_as};
+ghost use Rattle.model.specs.Numbers.{answer_as};
 ghost use Rattle.packing.specs.Packing.{verdict_result};
 
-use crate::verdicts;
-use model::Judged;
+use crate::found::HubFound;
+use crate::status::HubStatus;
+use model::{Refusal, Verdict};
 
 #[repr(C)]
-#[derive(Clone, Copy)]
+#[derive(Clone, Copy, Default)]
 pub struct HubVerdictResult {
-    pub number: u32,
-    pub record: u32,
-    pub verdict: u32,
-    pub label: u32,
+    pub status: HubStatus,
+    pub found: HubFound,
 }
 
-pub fn pack(v: Judged) -> HubVerdictResult
-    ensures { result ≡ verdict_result (judged_as v) }
-{
-    match v {
-        Judged::Done(found) => HubVerdictResult {
-            number: 0,
-            record: 0,
-            verdict: verdicts::code(found),
-            label: verdicts::label(found) as u32,
-        },
-        Judged::Refused(r) => HubVerdictResult {
-            number: r.number as u32,
-            record: r.record as u32,
-            verdict: 0,
-            label: 0,
-        },
+impl From<Result<Verdict, Refusal>> for HubVerdictResult {
+    ghost from_gives = { λ r h. h ≡ verdict_result (answer_as r) };
+
+    fn from(r: Result<Verdict, Refusal>) -> HubVerdictResult {
+        match r {
+            Ok(v) => HubVerdictResult {
+                found: v.into(),
+                ..HubVerdictResult::default()
+            },
+            Err(r) => HubVerdictResult {
+                status: r.into(),
+                ..HubVerdictResult::default()
+            },
+        }
     }
 }

@@ -2,14 +2,16 @@
 #![tactic(auto)]
 
 ghost use Rattle.std.specs.Prelude.{◌≡◌};
-ghost use Rattle.model.specs.Refusals.{each_of};
+ghost use Rattle.model.specs.Numbers.{answer_as, check_as};
+ghost use Rattle.model.specs.Records.{decode};
+ghost use Rattle.model.specs.Refusals.{answer, each_of};
 ghost use Rattle.model.specs.Validity.{gone_right, label_right, name_right, parent_right, record_check, spare_right};
-ghost use Rattle.model.specs.Numbers.{checked_as, reading_of};
-ghost use Rattle.record_checks.specs.Reading.{form_right, reading_number};
+ghost use Rattle.record_checks.specs.Reading.{form_right};
 
-use model::{Checked, Reading, Rec, Refusal};
+use model::{Cause, Rec, Refusal};
 
 // Whether the spare bytes of record i are zero, byte by byte, as `edge_at`.
+#[tactic(auto, unfolding(model::specs::Validity::spare_right))]
 fn spare_edge(it: &[u8], i: u16) -> bool
     ensures { result ≡ spare_right it.now i }
 {
@@ -32,6 +34,7 @@ fn spare_right(it: &[u8], i: u16) -> bool
 }
 
 // Whether a gone record is all zero.
+#[tactic(auto, unfolding(model::specs::Validity::gone_right, model::specs::Validity::blank))]
 fn gone_right(r: Rec) -> bool
     ensures { result ≡ gone_right r }
 {
@@ -42,23 +45,25 @@ fn gone_right(r: Rec) -> bool
 }
 
 // Whether the label is right for the kind.
+#[tactic(auto, unfolding(model::specs::Validity::label_right, model::specs::Validity::label_by, model::specs::Validity::label_in))]
 fn label_right(r: Rec) -> bool
     ensures { result ≡ label_right r }
 {
-    if !records::nested(r) {
+    if !r.is_nested() {
         return r.label == 0;
     }
-    if r.kind == 1 {
+    if r.is_ambient() {
         return (1 <= r.label) & (r.label <= 63);
     }
     (64 <= r.label) & (r.label <= 127)
 }
 
 // Whether the name is right for the kind.
+#[tactic(auto, unfolding(model::specs::Validity::name_right, model::specs::Validity::name_by))]
 fn name_right(r: Rec) -> bool
     ensures { result ≡ name_right r }
 {
-    if records::nested(r) {
+    if r.is_nested() {
         return r.name <= 63;
     }
     r.name == 0
@@ -75,57 +80,35 @@ fn parent_right(it: &[u8], p: u16) -> bool
 }
 
 // Whether record i has none of the faults of refusal 2.
+#[tactic(auto, unfolding(crate::specs::Reading::form_right, model::specs::Validity::kind_right))]
 fn form_right(it: &[u8], i: u16, r: Rec) -> bool
     ensures { result ≡ form_right it.now i r }
 {
     (r.kind <= 4) & (spare_right(it, i) & gone_right(r))
 }
 
-// Record i, or the number of the first of 2 to 5 that it breaks.
-fn read_record(it: &[u8], i: u16) -> Reading
-    ensures { result ≡ reading_of it.now i }
+// Record i, or the first refusal of 2 to 5 that it gives.
+#[tactic(auto, unfolding(model::specs::Numbers::answer_as, model::specs::Numbers::check_as, model::specs::Numbers::refusal, model::specs::Numbers::number_of, model::specs::Refusals::answer, model::specs::Refusals::and_then, model::specs::Refusals::need, model::specs::Validity::record_check, crate::specs::Reading::form_right))]
+fn read_record(it: &[u8], i: u16) -> Result<Rec, Refusal>
+    ensures { answer_as result ≡ answer (record_check it.now i) (decode it.now i) }
 {
     let r = records::record_at(it, i);
-    if !form_right(it, i, r) {
-        return Reading::Refused(2);
-    }
-    if !label_right(r) {
-        return Reading::Refused(3);
-    }
-    if !name_right(r) {
-        return Reading::Refused(4);
-    }
-    if !parent_right(it, r.parent) {
-        return Reading::Refused(5);
-    }
-    Reading::Record(r)
-}
-
-// The number of a reading's refusal, 0 where it is a record.
-fn number_of(r: Reading) -> u8
-    ensures { result ≡ reading_number r }
-{
-    match r {
-        Reading::Record(_) => 0,
-        Reading::Refused(k) => k,
-    }
+    gates::need(form_right(it, i, r), Cause::Form, i)?;
+    gates::need(label_right(r), Cause::Label, i)?;
+    gates::need(name_right(r), Cause::Name, i)?;
+    gates::need(parent_right(it, r.parent), Cause::Parent, i)?;
+    Ok(r)
 }
 
 // Refusals 2 to 5 of the first n records.
-pub fn read_all(it: &[u8], n: u16) -> Checked
-    ensures { checked_as result ≡ each_of (record_check it.now) 1 n }
+pub fn read_all(it: &[u8], n: u16) -> Result<(), Refusal>
+    ensures { check_as result ≡ each_of (record_check it.now) 1 n }
 {
-    let mut i: u16 = 0;
-    while i < n {
-        let next = i + 1;
-        let got = read_record(it, next);
-        let Reading::Record(_) = got else {
-            return Checked::Refuse(Refusal {
-                number: number_of(got),
-                record: next,
-            });
+    for i in 0..n {
+        let Err(refusal) = read_record(it, i + 1) else {
+            continue;
         };
-        i = next;
+        return Err(refusal);
     }
-    Checked::Pass
+    Ok(())
 }

@@ -1,6 +1,6 @@
 -- One climb of a view, where the record is read from bytes.
 use Rattle.std.specs.Prelude.{◌%◌, ◌+◌, ◌-◌, ◌/◌, suc, ℕ, length, replicate, false, true, List, ◌≢◌, ◌≡◌}
-use Rattle.std.proofs.Common.{eq-eqb, ne_eqb, ◌∙◌, ap, sym, arith}
+use Rattle.std.proofs.Common.{eq-eqb, eqb-true, ne_eqb, ◌∙◌, ap, sym, arith}
 use Rattle.model.specs.Climbing.{View, view, view_from}
 use Rattle.model.proofs.Laws.Bytes.{at-whole, length-records}
 use Rattle.model.proofs.Laws.Views.{from-lost, from_on, from-top}
@@ -30,6 +30,10 @@ view-from v s i = let e : length s / 8 + 1 ≡ suc (length (records s)) = omega 
 pub ambient-is : (r : Rec) → r.kind ≡ 1 → is_ambient r ≡ true
 unfolding is_ambient
 ambient-is r e = eq-eqb _ _ e
+
+pub ambient-kind : (r : Rec) → is_ambient r ≡ true → r.kind ≡ 1
+unfolding is_ambient
+ambient-kind r e = eqb-true _ _ e
 
 pub ambient-not : (r : Rec) → r.kind ≢ 1 → is_ambient r ≡ false
 unfolding is_ambient

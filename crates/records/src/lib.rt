@@ -2,7 +2,7 @@
 #![tactic(auto)]
 
 ghost use Rattle.std.specs.Prelude.{◌≡◌, ◌*◌, ◌<◌, ◌≤◌, length};
-ghost use Rattle.model.specs.Records.{byte_of, decode, gone, nested, word};
+ghost use Rattle.model.specs.Records.{byte_of, decode, gone, word};
 ghost use Rattle.model.specs.Steps.{to};
 ghost use Rattle.records.specs.Written.{with_record};
 
@@ -44,11 +44,27 @@ fn edge_at(it: &[u8], i: u16) -> Rec
 
 // The parent's number of a whole record.
 pub fn parent_of(it: &[u8], i: u16) -> u16
-    requires { (1 ≤ i) × (8 * i ≤ length it.now) }
+    requires some { 1 ≤ i }
+    requires whole { 8 * i ≤ length it.now }
     ensures { result ≡ (decode it.now i).parent }
 {
     let at = 8 * ((i as usize) - 1);
     word(it[at + 4], it[at + 5])
+}
+
+// A whole record.
+pub fn record_in(it: &[u8], i: u16) -> Rec
+    requires some { 1 ≤ i }
+    requires whole { 8 * i ≤ length it.now }
+    ensures { result ≡ decode it.now i }
+{
+    let at = 8 * ((i as usize) - 1);
+    Rec {
+        kind: it[at],
+        label: it[at + 1],
+        name: it[at + 2],
+        parent: parent_of(it, i),
+    }
 }
 
 // Record i, gone for the environment and over the count. One test of the length serves a whole record.
@@ -58,23 +74,10 @@ pub fn record_at(it: &[u8], i: u16) -> Rec
     if i == 0 {
         return edge_at(it, i);
     }
-    let at = 8 * ((i as usize) - 1);
-    if it.len() < at + 8 {
+    if it.len() / 8 < (i as usize) {
         return edge_at(it, i);
     }
-    Rec {
-        kind: it[at],
-        label: it[at + 1],
-        name: it[at + 2],
-        parent: parent_of(it, i),
-    }
-}
-
-// Whether a record is an ambient or a capability.
-pub fn nested(r: Rec) -> bool
-    ensures { result ≡ nested r }
-{
-    (1 <= r.kind) & (r.kind <= 4)
+    record_in(it, i)
 }
 
 // A record that is gone.
@@ -93,17 +96,13 @@ pub fn gone() -> Rec
 pub fn with_parent(r: Rec, q: u16) -> Rec
     ensures { result ≡ to q r }
 {
-    Rec {
-        kind: r.kind,
-        label: r.label,
-        name: r.name,
-        parent: q,
-    }
+    Rec { parent: q, ..r }
 }
 
 // Writes record i.
 pub fn put_record(it: &mut [u8], i: u16, r: Rec)
-    requires { (1 ≤ i) × (8 * i ≤ length it.old) }
+    requires some { 1 ≤ i }
+    requires whole { 8 * i ≤ length it.old }
     ensures { it.new ≡ with_record it.old i r }
 {
     let at = 8 * ((i as usize) - 1);

@@ -1,101 +1,110 @@
 // Replays the stored cases of the calls, file by file, and writes a line for each.
 #![tactic(auto)]
 
-ghost use Rattle.std.specs.Prelude.{◌≡◌, length};
-
-use replay_buffers::Room;
-use replay_cases::{Case, Ended};
-use replay_compare::{Result, Tally};
+use crate::results::reply;
+use replay_buffers::Memory;
+use replay_cases::{Call, Case, Fault};
+use replay_compare::{Reply, Tally};
 use std::io::Read;
 use std::rt::Files;
 
-mod itinerary;
 mod results;
-mod screen;
-mod table;
 
-// Itinerary, answers, sheet and table come first in the memory: a call may write them, and they have shadows. Policy and
-// script have none.
-fn rooms() -> [Room; 16] {
-    let mut rooms = [replay_buffers::empty_room(0, 0); 16];
-    rooms[1] = replay_buffers::empty_room(0, 8264);
-    rooms[5] = replay_buffers::empty_room(8264, 1032);
-    rooms[6] = replay_buffers::empty_room(9296, 8264);
-    rooms[3] = replay_buffers::empty_room(17560, 1560);
-    rooms[2] = replay_buffers::empty_room(19120, 80);
-    rooms[4] = replay_buffers::empty_room(19200, 4104);
-    rooms
+// The row as offset and length: its bytes are those at the offset that the case gives. None where they are others.
+fn row(table: &[u8], label: u16, want: Reply) -> Option<Reply> {
+    let (offset, len) = (want.values[0], want.values[1]);
+    let there = table.get(offset as usize..offset as usize + len as usize)?;
+    if calls::row(table, u8::try_from(label).unwrap_or(255)) == there {
+        Some(Reply::done([offset, len, 0, 0, 0, 0]))
+    } else {
+        None
+    }
 }
 
-// The call of a case, by the family that its number is of; its answer.
-fn answer(c: Case, held: &mut [u8]) -> Result {
-    if c.call < 21 {
-        return itinerary::answer(c, held);
-    }
-    if c.call == 25 {
-        return screen::answer(c, held);
-    }
-    table::answer(c, held)
+// Makes the call of a case; its answer. None is a row that is another part of the table, or a call that there isn't.
+fn answer(case: Case, memory: &mut Memory) -> Option<Reply> {
+    let Memory {
+        itinerary,
+        policy,
+        table,
+        script,
+        answers,
+        sheet,
+    } = memory;
+    let (x, y) = (case.x, case.y);
+    Some(match case.call? {
+        Call::Validate => reply(calls::validate(itinerary.content())),
+        Call::Climb => reply(calls::climb(itinerary.content(), policy.content(), x)),
+        Call::Sheet => reply(calls::sheet(
+            itinerary.content(),
+            table.content(),
+            sheet.content_mut(),
+        )),
+        Call::Step => reply(calls::step(itinerary.content_mut(), x, y)),
+        Call::Run => reply(calls::run(
+            itinerary.content_mut(),
+            script.content(),
+            answers.content_mut(),
+        )),
+        Call::Check => reply(calls::check(itinerary.content(), policy.content(), table.content())),
+        Call::Make => reply(calls::make(
+            itinerary.content(),
+            policy.content(),
+            table.content_mut(),
+        )),
+        Call::Verdict => reply(calls::verdict(
+            itinerary.content(),
+            policy.content(),
+            table.content(),
+        )),
+        Call::Row => row(table.content(), x, case.want)?,
+        Call::Screen => reply(calls::screen(
+            itinerary.content_mut(),
+            policy.content(),
+            script.content(),
+            answers.content_mut(),
+        )),
+        Call::Exposed => reply(calls::exposed(
+            itinerary.content(),
+            policy.content(),
+            table.content(),
+        )),
+    })
 }
 
-// Makes the call of a case and counts it, as right where its answer and what it left are those wanted.
-fn made(t: Tally, c: Case, held: &mut [u8], wants: &[u8]) -> Tally {
-    let got = answer(c, held);
-    replay_compare::counted(t, replay_compare::as_wanted(got, c.want, held, wants))
+// Makes the call of a case: whether its answer and what it left are those wanted.
+fn is_as_wanted(case: Case, memory: &mut Memory) -> bool {
+    match answer(case, memory) {
+        Some(got) => memory.as_wanted(got, case.want),
+        None => false,
+    }
 }
 
 // The calls of a file, up to its end, to what is no case, or to one that differs; at most a million. (What a call that
 // differs has left is no start for the next.)
-fn replay(file: &mut Option<impl Read>, held: &mut [u8], wants: &mut [u8]) -> Ended {
-    let mut rooms = rooms();
-    let mut t = replay_compare::no_calls();
-    let mut left: usize = 1000000;
-    while 0 < left {
-        left -= 1;
-        let c = replay_cases::next_case(file, rooms, held, wants);
-        if c.call <= replay_cases::FAULT {
-            return Ended {
-                tally: t,
-                fault: c.call == replay_cases::FAULT,
-            };
+fn replay(file: &mut impl Read, tally: &mut Tally) -> Result<(), Fault> {
+    let mut memory = Memory::new();
+    for _ in 0..1000000 {
+        let Some(case) = replay_cases::next_case(file, &mut memory)? else {
+            return Ok(());
+        };
+        let right = is_as_wanted(case, &mut memory);
+        tally.count(right);
+        if !right {
+            return Ok(());
         }
-        t = made(t, c, held, wants);
-        if 0 < t.differ {
-            return Ended {
-                tally: t,
-                fault: false,
-            };
-        }
-        let next = c.rooms;
-        rooms = next;
     }
-    Ended {
-        tally: t,
-        fault: true,
-    }
-}
-
-// The memory of the buffers. (With the length alone known, it may be of any size.)
-fn memory() -> [u8; 23304]
-    ensures { 23304 ≡ length result }
-{
-    [0; 23304]
-}
-
-// The shadows: what the start of the memory has to be.
-fn shadows() -> [u8; 19120]
-    ensures { 19120 ≡ length result }
-{
-    [0; 19120]
+    Err(Fault)
 }
 
 // A file, with a memory of its own.
 fn play(rt: &(impl Files + Print), name: &[u8]) {
-    let mut held = memory();
-    let mut wants = shadows();
-    let mut file = replay_cases::open(rt, name);
-    let e = replay(&mut file, &mut held, &mut wants);
-    replay_cases::finish(rt, file, name, e);
+    let mut tally = Tally::default();
+    let ended = match replay_cases::open(rt, name) {
+        Ok(mut file) => replay(&mut file, &mut tally),
+        Err(fault) => Err(fault),
+    };
+    replay_cases::finish(rt, name, tally, ended);
 }
 
 fn main(rt: HostRuntime) {

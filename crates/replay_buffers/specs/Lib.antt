@@ -1,3 +1,2 @@
--- What a stored case's buffers hold, and the laws of it.
+-- What a stored case's buffers hold.
 pub mod Storing
-pub mod Laws

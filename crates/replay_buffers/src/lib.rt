@@ -1,119 +1,190 @@
-// The buffers of a replay in one memory, and the numbers and bits of stored cases. (The format of a file of cases is in
+// The buffers of a replay, each with its shadow, and the answers and bits of stored cases. (The format of a file of cases is in
 // simulator/README.md.)
-#![tactic(auto)]
+#![tactic(auto, using(model::proofs::Laws::Bit::one_shl), unfolding(crate::specs::Storing::empty_buffer, crate::specs::Storing::empty_memory, crate::specs::Storing::with_len, crate::specs::Storing::as_it_is, crate::specs::Storing::content_of, crate::specs::Storing::shadow_of, crate::specs::Storing::buffer_right, crate::specs::Storing::as_wanted, crate::specs::Storing::buffer_of, crate::specs::Storing::stored, crate::specs::Storing::value, crate::specs::Storing::turned, crate::specs::Storing::raised, replay_compare::specs::Comparing::agreeing))]
 
-ghost use Rattle.std.specs.Prelude.{[], ◌∷◌, ◌≡◌, length, replicate};
-ghost use Rattle.replay_compare.specs.Comparing.{over};
-ghost use Rattle.replay_buffers.specs.Storing.{bytes_at, bytes_of, empty_room, number, raised, stored, turned};
+ghost use Rattle.std.specs.Prelude.{◌≡◌, ◌<◌, ◌≤◌, option_map, take};
+ghost use Rattle.replay_buffers.specs.Storing.{as_it_is, as_wanted, buffer_of, buffer_right, content_of, empty_buffer, empty_memory, raised, shadow_of, stored, turned, value, with_len};
 
-// A buffer's place in the memory: where it starts, how many bytes it may have, and how many it has.
-#[derive(Clone, Copy)]
-pub struct Room {
-    pub start: usize,
-    pub size: usize,
-    pub len: usize,
+use replay_compare::Reply;
+
+// A buffer: its content, and its shadow, which is what the content has to be after the next call. Each is the first `len`
+// bytes of its array, at most `size`.
+#[derive(Drop)]
+pub struct Buffer {
+    content: [u8; 8264],
+    shadow: [u8; 8264],
+    size: usize,
+    len: usize,
 }
 
-// A room with no bytes in it yet.
-pub fn empty_room(start: usize, size: usize) -> Room
-    ensures { result ≡ empty_room start size }
-{
-    Room {
-        start,
-        size,
-        len: 0,
+impl Buffer {
+    // A buffer with no bytes in it yet.
+    pub fn new(size: usize) -> Buffer
+        ensures { result ≡ empty_buffer size }
+    {
+        Buffer {
+            content: [0; 8264],
+            shadow: [0; 8264],
+            size,
+            len: 0,
+        }
+    }
+
+    // How many it may have.
+    pub fn size(&self) -> usize
+        ensures { result ≡ self.now.size }
+    {
+        self.size
+    }
+
+    // Gives it n bytes: those that stood there before.
+    pub fn set_len(&mut self, n: usize)
+        requires { n ≤ self.old.size }
+        ensures { self.new ≡ with_len n self.old }
+    {
+        self.len = n;
+    }
+
+    // The bytes that it has.
+    pub fn content(&self) -> &[u8]
+        ensures { result.now ≡ content_of self.now }
+    {
+        first(&self.content, self.len)
+    }
+
+    pub fn content_mut(&mut self) -> &mut [u8]
+        ensures { result.now ≡ content_of self.old }
+    {
+        let n = self.len;
+        first_mut(&mut self.content, n)
+    }
+
+    // What they have to be after the next call.
+    pub fn shadow_mut(&mut self) -> &mut [u8]
+        ensures { result.now ≡ shadow_of self.old }
+    {
+        let n = self.len;
+        first_mut(&mut self.shadow, n)
+    }
+
+    // Has its content stay as it is.
+    pub fn want_content(&mut self)
+        ensures { self.new ≡ as_it_is self.old }
+    {
+        self.shadow = self.content;
+    }
+
+    // Whether it has the bytes that it has to have, and those behind them are as they were.
+    pub fn is_as_wanted(&self) -> bool
+        ensures { result ≡ buffer_right self.now }
+    {
+        self.content[..] == self.shadow[..]
     }
 }
 
-// The n bytes from `at` on, or as many as there are.
-pub fn place<'a>(s: &'a [u8], at: usize, n: usize) -> &'a [u8]
-    ensures { result.now ≡ bytes_at at n s.now }
+// The first n bytes of a buffer, or all of it where it has fewer.
+fn first(s: &[u8], n: usize) -> &[u8]
+    ensures { result.now ≡ take n s.now }
 {
-    let m = s.len();
-    if m < at {
-        return &s[m..];
+    &s[..n.min(s.len())]
+}
+
+// The same of a buffer that is lent to change: the language has no one function for both.
+fn first_mut(s: &mut [u8], n: usize) -> &mut [u8]
+    ensures { result.now ≡ take n s.old }
+{
+    let n = n.min(s.len());
+    &mut s[..n]
+}
+
+// The buffers of the calls.
+#[derive(Drop)]
+pub struct Memory {
+    pub itinerary: Buffer,
+    pub policy: Buffer,
+    pub table: Buffer,
+    pub script: Buffer,
+    pub answers: Buffer,
+    pub sheet: Buffer,
+}
+
+impl Memory {
+    // All buffers, with no bytes in them yet, each with the most that a case may set it to.
+    pub fn new() -> Memory
+        ensures { result ≡ empty_memory }
+    {
+        Memory {
+            itinerary: Buffer::new(8264),
+            policy: Buffer::new(80),
+            table: Buffer::new(1560),
+            script: Buffer::new(4104),
+            answers: Buffer::new(1032),
+            sheet: Buffer::new(8264),
+        }
     }
-    if m - at < n {
-        return &s[at..];
+
+    // The buffer with number k, where there is one.
+    pub fn buffer(&mut self, k: u8) -> Option<&mut Buffer>
+        ensures { option_map (λ b. b.now) result ≡ buffer_of k self.old }
+    {
+        match k {
+            1 => Some(&mut self.itinerary),
+            2 => Some(&mut self.policy),
+            3 => Some(&mut self.table),
+            4 => Some(&mut self.script),
+            5 => Some(&mut self.answers),
+            6 => Some(&mut self.sheet),
+            _ => None,
+        }
     }
-    &s[at..at + n]
-}
 
-// The same of a buffer that is lent to change.
-pub fn place_mut<'a>(s: &'a mut [u8], at: usize, n: usize) -> &'a mut [u8]
-    ensures { result.now ≡ bytes_at at n s.old }
-{
-    let m = s.len();
-    if m < at {
-        return &mut s[m..];
-    }
-    if m - at < n {
-        return &mut s[at..];
-    }
-    &mut s[at..at + n]
-}
-
-// The bytes that a buffer has.
-pub fn lent<'a>(memory: &'a [u8], room: Room) -> &'a [u8]
-    ensures { result.now ≡ bytes_of room memory.now }
-{
-    place(memory, room.start, room.len)
-}
-
-pub fn lent_mut<'a>(memory: &'a mut [u8], room: Room) -> &'a mut [u8]
-    ensures { result.now ≡ bytes_of room memory.old }
-{
-    place_mut(memory, room.start, room.len)
-}
-
-// Copies a buffer's bytes, as many as fit.
-pub fn load(memory: &[u8], room: Room, copy: &mut [u8])
-    ensures { copy.new ≡ over (bytes_of room memory.now) copy.old }
-{
-    replay_compare::copy(lent(memory, room), copy);
-}
-
-// Copies them back.
-pub fn store(copy: &[u8], room: Room, memory: &mut [u8])
-    ensures { memory.new ≡ stored room copy.now memory.old }
-{
-    let start = room.start;
-    if memory.len() < start {
-        return;
-    }
-    replay_compare::copy(replay_compare::part(copy, room.len), &mut memory[start..]);
-}
-
-// Numbers, the low byte first.
-pub fn half(a: u8, b: u8) -> u16
-    ensures { result ≡ number (a ∷ b ∷ []) }
-{
-    (a as u16) + 256 * (b as u16)
-}
-
-pub fn word(a: u8, b: u8, c: u8, d: u8) -> u32
-    ensures { result ≡ number (a ∷ b ∷ c ∷ d ∷ []) }
-{
-    (a as u32) + 256 * ((b as u32) + 256 * ((c as u32) + 256 * (d as u32)))
-}
-
-// Sets all bytes to zero.
-pub fn clear(buffer: &mut [u8])
-    ensures { buffer.new ≡ replicate (length buffer.old) 0 }
-{
-    let mut i: usize = 0;
-    while i < buffer.len() {
-        buffer[i] = 0;
-        i += 1;
+    // Whether a call gave the answer wanted and left the bytes wanted.
+    pub fn as_wanted(&self, got: Reply, want: Reply) -> bool
+        ensures { result ≡ as_wanted got want self.now }
+    {
+        got == want
+            && self.itinerary.is_as_wanted()
+            && self.policy.is_as_wanted()
+            && self.table.is_as_wanted()
+            && self.script.is_as_wanted()
+            && self.answers.is_as_wanted()
+            && self.sheet.is_as_wanted()
     }
 }
 
-// Turns bit k, where there is one.
+// An answer as a file has it: number, record, values.
+pub fn reply_of(b: &[u8; 27]) -> Reply
+    ensures { result ≡ stored b.now }
+{
+    Reply {
+        number: b[0],
+        record: u16::from_le_bytes([b[1], b[2]]),
+        values: [
+            value(b, 0),
+            value(b, 1),
+            value(b, 2),
+            value(b, 3),
+            value(b, 4),
+            value(b, 5),
+        ],
+    }
+}
+
+// Value k of it.
+fn value(b: &[u8; 27], k: usize) -> u32
+    requires { k < 6 }
+    ensures { result ≡ value b.now k }
+{
+    let at = 3 + 4 * k;
+    u32::from_le_bytes([b[at], b[at + 1], b[at + 2], b[at + 3]])
+}
+
+// Turns bit k, where there is one. (One function for this and the next, with the operation passed in, is no plainer.)
 pub fn turn(buffer: &mut [u8], k: usize)
     ensures { buffer.new ≡ turned k buffer.old }
 {
     if k / 8 < buffer.len() {
-        buffer[k / 8] = buffer[k / 8] ^ (1u8 << (k % 8));
+        buffer[k / 8] ^= 1 << (k % 8);
     }
 }
 
@@ -122,6 +193,6 @@ pub fn raise(buffer: &mut [u8], k: usize)
     ensures { buffer.new ≡ raised k buffer.old }
 {
     if k / 8 < buffer.len() {
-        buffer[k / 8] |= 1u8 << (k % 8);
+        buffer[k / 8] |= 1 << (k % 8);
     }
 }

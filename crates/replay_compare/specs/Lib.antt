@@ -1,3 +1,2 @@
--- What the comparisons of a replay say, and that they say it.
+-- What the comparisons of a replay say.
 pub mod Comparing
-pub mod Laws

@@ -1,26 +1,25 @@
 -- The text that is filled is the one shown, for a screen that is done and for one that is refused.
 use Rattle.std.specs.Prelude.{◌+◌, ◌≤◌, ℕ, drop, length, true, List, [], ◌≡◌}
+use Rattle.std.specs.Prelude.{Result, Ok, Err}
 use Rattle.std.proofs.Common.{length-append, length-drop, ◌∙◌, arith}
 use Rattle.std.proofs.Math.Path.{ap, sym}
 use Rattle.listing.specs.Lines.{shown}
 use Rattle.listing.specs.Short.{done-script, done-short, shown-short}
 use Rattle.model.specs.Calls.{screen_answer, screen_answers}
 use Rattle.model.specs.Listing.{listing, step_lines}
-use Rattle.model.specs.Numbers.{refusal, screened_as}
+use Rattle.model.specs.Numbers.{answer_as, refusal}
 use Rattle.model.specs.Refusals.{done}
 use Rattle.model.specs.Scripts.{script_right, steps_in}
 use Rattle.model.specs.declared.Refusal.{Refusal}
 use Rattle.model.specs.declared.Screen.{Screen}
-use Rattle.model.specs.declared.Screened.{Screened}
-use Rattle.model.specs.declared.Screened.TheVariants as screened
 use Rattle.text_put.specs.Laws.{put_as, put-over}
 use Rattle.text_put.specs.Puts.{Put, over}
 
-module _ (s policy z a : List ℕ) (r : Screened) (e : screened_as r ≡ screen_answer s policy z a) where
-  module _ (x : Screen) (d : r ≡ screened.Done x) (a' : List ℕ) (f : a' ≡ screen_answers s policy z a) where
+module _ (s policy z a : List ℕ) (r : Result Screen Refusal) (e : answer_as r ≡ screen_answer s policy z a) where
+  module _ (x : Screen) (d : r ≡ Ok x) (a' : List ℕ) (f : a' ≡ screen_answers s policy z a) where
     is-done : screen_answer s policy z a ≡ done x
-    unfolding screened_as
-    is-done = sym e ∙ ap screened_as d
+    unfolding answer_as
+    is-done = sym e ∙ ap answer_as d
 
     -- there is room for all lines of a screen that is done
     pub room-done : length a' ≡ length a → (n : ℕ) → 15408 ≤ n → (script_right z (length a') ≡ true) × (48 + length (step_lines (steps_in z) a' []) ≤ n)
@@ -30,10 +29,10 @@ module _ (s policy z a : List ℕ) (r : Screened) (e : screened_as r ≡ screen_
     unfolding shown
     text-done p = put-over (put_as (rw (f, is-done)) p)
 
-  pub text-refused : (y : Refusal) → r ≡ screened.Refused y → {t t' : List ℕ} {n : ℕ} → Put t 0 (listing (refusal y) [] []) t' n →
+  pub text-refused : (y : Refusal) → r ≡ Err y → {t t' : List ℕ} {n : ℕ} → Put t 0 (listing (refusal y) [] []) t' n →
       (n ≡ length (shown s policy z a)) × (t' ≡ over (shown s policy z a) t)
-  unfolding shown screened_as refusal listing
-  text-refused y d p = put-over (put_as (ap (λ u. listing u (steps_in z) (screen_answers s policy z a)) (sym (ap screened_as d) ∙ e)) p)
+  unfolding shown answer_as refusal listing
+  text-refused y d p = put-over (put_as (ap (λ u. listing u (steps_in z) (screen_answers s policy z a)) (sym (ap answer_as d) ∙ e)) p)
 
 -- the text keeps its length
 pub text-sized : (s policy z a t : List ℕ) {t' : List ℕ} → t' ≡ over (shown s policy z a) t → 15408 ≡ length t → 15408 ≡ length t'

@@ -6,8 +6,6 @@ ghost use Rattle.listing.specs.Lines.{shown};
 ghost use Rattle.model.specs.Calls.{screen_after, screen_answers};
 ghost use Rattle.text_put.specs.Puts.{over};
 
-use model::Screened;
-
 // Screens what is lent and fills the text with what the program writes of it; answers how many bytes that is. The rest of
 // the text stays as it was.
 pub fn screen_text(
@@ -17,13 +15,13 @@ pub fn screen_text(
     answers: &mut [u8],
     text: &mut [u8; 15408],
 ) -> usize
-    ensures { (result ≡ length (shown it.old policy.now script.now answers.old))
-        × (text.new ≡ over (shown it.old policy.now script.now answers.old) text.old)
-        × (it.new ≡ screen_after it.old policy.now script.now answers.old)
-        × (answers.new ≡ screen_answers it.old policy.now script.now answers.old) }
+    ensures length { result ≡ length (shown it.old policy.now script.now answers.old) }
+    ensures text { text.new ≡ over (shown it.old policy.now script.now answers.old) text.old }
+    ensures itinerary { it.new ≡ screen_after it.old policy.now script.now answers.old }
+    ensures answers { answers.new ≡ screen_answers it.old policy.now script.now answers.old }
 {
     match calls::screen(it, policy, script, answers) {
-        Screened::Refused(r) => listing::put_refused(text, r),
-        Screened::Done(s) => listing::put_screen(text, s, script, answers),
+        Ok(s) => listing::put_screen(text, s, script, answers),
+        Err(r) => listing::put_refused(text, r),
     }
 }

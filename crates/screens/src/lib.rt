@@ -1,24 +1,25 @@
 // What a screen does where its checks pass: a table of its own is made and judged, and then the script is run.
 #![tactic(auto)]
 
-ghost use Rattle.std.specs.Prelude.{◌≡◌, length};
+ghost use Rattle.std.specs.Prelude.{◌≡◌};
 ghost use Rattle.model.specs.Calls.{screen_after, screen_answer, screen_answers, screening};
 ghost use Rattle.model.specs.Refusals.{done, pass};
 
 use model::Screen;
+use tables::{Policy, Table};
 
 // The screen with a lent table to make.
 fn screen_with(
     it: &mut [u8],
-    policy: &[u8],
+    policy: &Policy,
     script: &[u8],
     answers: &mut [u8],
-    table: &mut [u8],
+    table: &mut Table,
 ) -> Screen
-    requires { (length table.old ≡ 1544) × (screening it.old policy.now script.now answers.old ≡ pass) }
-    ensures { (done result ≡ screen_answer it.old policy.now script.now answers.old)
-        × (it.new ≡ screen_after it.old policy.now script.now answers.old)
-        × (answers.new ≡ screen_answers it.old policy.now script.now answers.old) }
+    requires { screening it.old policy.now script.now answers.old ≡ pass }
+    ensures answer { done result ≡ screen_answer it.old policy.now script.now answers.old }
+    ensures itinerary { it.new ≡ screen_after it.old policy.now script.now answers.old }
+    ensures answers { answers.new ≡ screen_answers it.old policy.now script.now answers.old }
 {
     let ones = table_least::write_least(it, policy, table);
     let verdict = verdicts::verdict_of(policy, table);
@@ -33,11 +34,11 @@ fn screen_with(
 
 // The verdict on the table made of the itinerary, its bits set, the steps that the script did, and the records not gone
 // after it. What is made is accepted, so the verdict needs no check.
-pub fn screen(it: &mut [u8], policy: &[u8], script: &[u8], answers: &mut [u8]) -> Screen
+pub fn screen(it: &mut [u8], policy: &Policy, script: &[u8], answers: &mut [u8]) -> Screen
     requires { screening it.old policy.now script.now answers.old ≡ pass }
-    ensures { (done result ≡ screen_answer it.old policy.now script.now answers.old)
-        × (it.new ≡ screen_after it.old policy.now script.now answers.old)
-        × (answers.new ≡ screen_answers it.old policy.now script.now answers.old) }
+    ensures answer { done result ≡ screen_answer it.old policy.now script.now answers.old }
+    ensures itinerary { it.new ≡ screen_after it.old policy.now script.now answers.old }
+    ensures answers { answers.new ≡ screen_answers it.old policy.now script.now answers.old }
 {
     let mut table = [0u8; tables::TABLE_BYTES];
     screen_with(it, policy, script, answers, &mut table)

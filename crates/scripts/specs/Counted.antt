@@ -1,8 +1,8 @@
 -- The counts of a run, one step after the other.
 use Rattle.std.specs.Prelude.{◌+◌}
 use Rattle.model.specs.Scripts.{done_by}
+use Rattle.model.specs.Steps.{Outcome}
 use Rattle.model.specs.declared.Counts.{Counts}
-use Rattle.model.specs.declared.Outcome.{Outcome}
 
 -- the counts with one step more
 unfoldable pub counted : Counts → Outcome → Counts

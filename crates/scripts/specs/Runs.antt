@@ -12,13 +12,11 @@ use Rattle.model.proofs.Laws.Booleans.{and_left, and_right}
 use Rattle.model.specs.Records.{byte, records, word}
 use Rattle.model.specs.Refusals.{pass}
 use Rattle.model.specs.Scripts.{Step, after_list, answers_of, counts_of, done_by, how_many, kind_of, step_in, steps_in, outcomes, script_right}
-use Rattle.model.specs.Steps.{answer_of, outcome, step_bytes}
+use Rattle.model.specs.Steps.{Outcome, answer_of, done-by, outcome, refused-with, step_bytes}
 use Rattle.model.specs.Validity.{validity}
 use Rattle.model.specs.declared.Counts.{Counts}
 use Rattle.scripts.specs.Counted.{counted}
 use Rattle.model.specs.declared.Capability.TheVariants.{In as cap-in, Open as cap-open, Out as cap-out}
-use Rattle.model.specs.declared.Outcome.{Outcome}
-use Rattle.model.specs.declared.Outcome.TheVariants.{Done as done-by, Refused as refused-with}
 
 -- what script_right says
 pub record Script (z : List ℕ) (room : ℕ) : Type 0 where

@@ -5,14 +5,14 @@ ghost use Rattle.std.specs.Prelude.{◌≡◌, ◌%◌, ◌+◌, ◌<◌, ◌≤
 ghost use Rattle.model.specs.Analysis.{permit_all};
 ghost use Rattle.model.specs.Finite.{one_if, unequal};
 ghost use Rattle.model.specs.Records.{byte, records, word};
-ghost use Rattle.model.specs.Numbers.{checked_as};
-ghost use Rattle.model.specs.Refusals.{◌▸◌, need, pass};
+ghost use Rattle.model.specs.Numbers.{check_as, outcome_as};
+ghost use Rattle.model.specs.Refusals.{need, pass};
 ghost use Rattle.model.specs.Scripts.{after_list, answers_of, counts_of, not_gone, outcomes, script_right, steps_in};
 ghost use Rattle.model.specs.Steps.{answer_of};
 ghost use Rattle.model.specs.Validity.{validity};
 ghost use Rattle.scripts.specs.Counted.{counted};
 
-use model::{Capability, Checked, Counts, Outcome};
+use model::{Capability, Cause, Counts, Refusal};
 
 // Whether a script has whole steps, not too many, and a place for the answer of each.
 fn script_right(script: &[u8], room: usize) -> bool
@@ -23,10 +23,11 @@ fn script_right(script: &[u8], room: usize) -> bool
 }
 
 // Refusal 13, for room answers.
-pub fn script_gate(so_far: Checked, script: &[u8], room: usize) -> Checked
-    ensures { checked_as result ≡ (checked_as so_far ▸ need (script_right script.now room) 13 0) }
+#[tactic(auto, unfolding(model::specs::Numbers::number_of))]
+pub fn script_gate(script: &[u8], room: usize) -> Result<(), Refusal>
+    ensures { check_as result ≡ need (script_right script.now room) 13 0 }
 {
-    gates::need(so_far, script_right(script, room), 13)
+    gates::need(script_right(script, room), Cause::Script, 0)
 }
 
 // The number in bytes j and j + 1 of a script.
@@ -38,85 +39,83 @@ fn word_at(script: &[u8], j: usize) -> u16
 }
 
 // The answer byte of a step.
-fn number_of(o: Outcome) -> u8
-    ensures { result ≡ answer_of o }
+#[tactic(auto, unfolding(model::specs::Numbers::outcome_as, model::specs::Steps::answer_of))]
+fn number_of(outcome: Result<Capability, Cause>) -> u8
+    ensures { result ≡ answer_of (outcome_as outcome) }
 {
-    match o {
-        Outcome::Done(_) => 0,
-        Outcome::Refused(n) => n,
+    match outcome {
+        Ok(_) => 0,
+        Err(cause) => cause.number(),
     }
 }
 
 // The counts with one step more.
-fn counted(c: Counts, o: Outcome) -> Counts
-    requires { (c.ins < 65535) × (c.outs < 65535) × (c.opens < 65535) }
-    ensures { result ≡ counted c o }
+fn counted(c: Counts, outcome: Result<Capability, Cause>) -> Counts
+    requires ins_few { c.ins < 65535 }
+    requires outs_few { c.outs < 65535 }
+    requires opens_few { c.opens < 65535 }
+    ensures { result ≡ counted c (outcome_as outcome) }
 {
-    let Outcome::Done(k) = o else {
+    let Ok(k) = outcome else {
         return c;
     };
     match k {
         Capability::In => Counts {
             ins: c.ins + 1,
-            outs: c.outs,
-            opens: c.opens,
+            ..c
         },
         Capability::Out => Counts {
-            ins: c.ins,
             outs: c.outs + 1,
-            opens: c.opens,
+            ..c
         },
         Capability::Open => Counts {
-            ins: c.ins,
-            outs: c.outs,
             opens: c.opens + 1,
+            ..c
         },
     }
 }
 
 // The steps of a script, in order, on an itinerary that is known to be valid: a step keeps it valid.
 pub fn run(it: &mut [u8], script: &[u8], answers: &mut [u8]) -> Counts
-    requires { (validity it.old ≡ pass) × (script_right script.now (length answers.old) ≡ true) }
-    ensures { (result ≡ counts_of (outcomes permit_all it.old (steps_in script.now)))
-        × (it.new ≡ after_list permit_all it.old (steps_in script.now))
-        × (answers.new ≡ answers_of permit_all it.old (steps_in script.now)) }
+    requires valid { validity it.old ≡ pass }
+    requires right { script_right script.now (length answers.old) ≡ true }
+    ensures counts { result ≡ counts_of (outcomes permit_all it.old (steps_in script.now)) }
+    ensures itinerary { it.new ≡ after_list permit_all it.old (steps_in script.now) }
+    ensures answers { answers.new ≡ answers_of permit_all it.old (steps_in script.now) }
 {
     let mut c = Counts {
         ins: 0,
         outs: 0,
         opens: 0,
     };
-    let n = answers.len();
-    let mut k: usize = 0;
-    while k < n {
+    for k in 0..answers.len() {
         let actor = word_at(script, 4 * k);
         let partner = word_at(script, 4 * k + 2);
-        let o = steps::act(it, actor, partner);
-        answers[k] = number_of(o);
-        c = counted(c, o);
-        k += 1;
+        let outcome = steps::act(it, actor, partner);
+        answers[k] = number_of(outcome);
+        c = counted(c, outcome);
     }
     c
 }
 
 // One for a kind that is not gone's.
+#[tactic(auto, unfolding(model::specs::Finite::one_if))]
 fn present(kind: u8) -> u16
-    ensures { (result ≡ one_if (unequal kind 0)) × (result ≤ 1) }
+    ensures counted { result ≡ one_if (unequal kind 0) }
+    ensures one_at_most { result ≤ 1 }
 {
     if kind == 0 { 0 } else { 1 }
 }
 
 // How many records are not gone.
 pub fn not_gone(it: &[u8]) -> u16
-    requires { (length it.now % 8 ≡ 0) × (length it.now ≤ 8192) }
+    requires whole { length it.now % 8 ≡ 0 }
+    requires few { length it.now ≤ 8192 }
     ensures { result ≡ not_gone (records it.now) }
 {
-    let n = (it.len() / 8) as u16;
     let mut sum: u16 = 0;
-    let mut i: u16 = 0;
-    while i < n {
+    for i in 0..(it.len() / 8) as u16 {
         sum += present(records::byte_of(it, i + 1, 0));
-        i += 1;
     }
     sum
 }

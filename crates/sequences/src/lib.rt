@@ -1,69 +1,100 @@
-// The sequences of document 01: for each call its causes to refuse, in their order, as one value. A sequence starts with what
-// every call looks for first, so a cause that comes behind it goes into one place.
+// The sequences of document 01: for each call its causes to refuse, in their order. A sequence starts with what every call
+// looks for first, so a cause that comes behind it goes into one place; it answers the policy and the table that passed.
 #![tactic(auto)]
 
-ghost use Rattle.std.specs.Prelude.{◌≡◌};
+ghost use Rattle.std.specs.Prelude.{◌≡◌, IfOk};
 ghost use Rattle.model.specs.Calls.{checking, comparing, entry, making, running, screening, showing};
-ghost use Rattle.model.specs.Numbers.{checked_as};
+ghost use Rattle.model.specs.Numbers.{check_as};
 
-use model::Checked;
+use model::{Cause, Refusal};
+use tables::{Policy, Table};
 
 // Refusals 1 to 6, 8, 14.
-pub fn showing(it: &[u8], table: &[u8], sheet: &[u8]) -> Checked
-    ensures { checked_as result ≡ showing it.now table.now sheet.now }
+#[tactic(auto, unfolding(model::specs::Calls::showing, model::specs::Numbers::check_as, model::specs::Numbers::number_of, model::specs::Refusals::and_then))]
+pub fn showing<'a>(it: &[u8], table: &'a [u8], sheet: &[u8]) -> Result<&'a Table, Refusal>
+    ensures checks { check_as result ≡ showing it.now table.now sheet.now }
+    ensures same { IfOk result (λ passed. passed.now ≡ table.now) }
 {
-    let c = validity::validity(it);
-    let c = tables::table_gate(c, table);
-    gates::need(c, sheet.len() == it.len(), 14)
+    validity::validity(it)?;
+    let passed = tables::table_gate(table)?;
+    gates::need(sheet.len() == it.len(), Cause::Sheet, 0)?;
+    Ok(passed)
 }
 
 // Refusals 1 to 6, 13.
-pub fn running(it: &[u8], script: &[u8], answers: &[u8]) -> Checked
-    ensures { checked_as result ≡ running it.now script.now answers.now }
+#[tactic(auto, unfolding(model::specs::Calls::running, model::specs::Numbers::check_as, model::specs::Numbers::number_of, model::specs::Refusals::and_then))]
+pub fn running(it: &[u8], script: &[u8], answers: &[u8]) -> Result<(), Refusal>
+    ensures { check_as result ≡ running it.now script.now answers.now }
 {
-    let c = validity::validity(it);
-    scripts::script_gate(c, script, answers.len())
+    validity::validity(it)?;
+    scripts::script_gate(script, answers.len())
 }
 
 // Refusals 1 to 6, 7.
-pub fn entry(it: &[u8], policy: &[u8]) -> Checked
-    ensures { checked_as result ≡ entry it.now policy.now }
+#[tactic(auto, unfolding(model::specs::Calls::entry, model::specs::Numbers::check_as, model::specs::Numbers::number_of, model::specs::Refusals::and_then))]
+pub fn entry<'a>(it: &[u8], policy: &'a [u8]) -> Result<&'a Policy, Refusal>
+    ensures checks { check_as result ≡ entry it.now policy.now }
+    ensures same { IfOk result (λ passed. passed.now ≡ policy.now) }
 {
-    let c = validity::validity(it);
-    tables::policy_gate(c, policy)
+    validity::validity(it)?;
+    tables::policy_gate(policy)
 }
 
 // Refusals 1 to 6, 7, 8.
-pub fn comparing(it: &[u8], policy: &[u8], table: &[u8]) -> Checked
-    ensures { checked_as result ≡ comparing it.now policy.now table.now }
+#[tactic(auto, unfolding(model::specs::Calls::comparing, model::specs::Numbers::check_as, model::specs::Numbers::number_of, model::specs::Refusals::and_then))]
+pub fn comparing<'a>(
+    it: &[u8],
+    policy: &'a [u8],
+    table: &'a [u8],
+) -> Result<(&'a Policy, &'a Table), Refusal>
+    ensures checks { check_as result ≡ comparing it.now policy.now table.now }
+    ensures same_policy { IfOk result (λ passed. passed.0.now ≡ policy.now) }
+    ensures same_table { IfOk result (λ passed. passed.1.now ≡ table.now) }
 {
-    let c = entry(it, policy);
-    tables::table_gate(c, table)
+    let policy = entry(it, policy)?;
+    let table = tables::table_gate(table)?;
+    Ok((policy, table))
 }
 
 // Refusals 1 to 6, 7, 8, 9: the last looks only at what the others let through.
-pub fn checking(it: &[u8], policy: &[u8], table: &[u8]) -> Checked
-    ensures { checked_as result ≡ checking it.now policy.now table.now }
+#[tactic(auto, unfolding(model::specs::Calls::checking, model::specs::Numbers::check_as, model::specs::Numbers::number_of, model::specs::Refusals::and_then))]
+pub fn checking<'a>(
+    it: &[u8],
+    policy: &'a [u8],
+    table: &'a [u8],
+) -> Result<(&'a Policy, &'a Table), Refusal>
+    ensures checks { check_as result ≡ checking it.now policy.now table.now }
+    ensures same_policy { IfOk result (λ passed. passed.0.now ≡ policy.now) }
+    ensures same_table { IfOk result (λ passed. passed.1.now ≡ table.now) }
 {
-    let c = comparing(it, policy, table);
-    if let Checked::Refuse(_) = c {
-        return c;
-    }
-    gates::need(c, table_holds::holds(it, policy, table), 9)
+    let (policy, table) = comparing(it, policy, table)?;
+    gates::need(table_holds::holds(it, policy, table), Cause::Holds, 0)?;
+    Ok((policy, table))
 }
 
 // Refusals 1 to 6, 7, 8 by the length alone.
-pub fn making(it: &[u8], policy: &[u8], table: &[u8]) -> Checked
-    ensures { checked_as result ≡ making it.now policy.now table.now }
+#[tactic(auto, unfolding(model::specs::Calls::making, model::specs::Numbers::check_as, model::specs::Numbers::number_of, model::specs::Refusals::and_then))]
+pub fn making<'a>(it: &[u8], policy: &'a [u8], table: &[u8]) -> Result<&'a Policy, Refusal>
+    ensures checks { check_as result ≡ making it.now policy.now table.now }
+    ensures same { IfOk result (λ passed. passed.now ≡ policy.now) }
 {
-    let c = entry(it, policy);
-    tables::sized_gate(c, table)
+    let policy = entry(it, policy)?;
+    tables::sized_gate(table)?;
+    Ok(policy)
 }
 
 // Refusals 1 to 6, 7, 13.
-pub fn screening(it: &[u8], policy: &[u8], script: &[u8], answers: &[u8]) -> Checked
-    ensures { checked_as result ≡ screening it.now policy.now script.now answers.now }
+#[tactic(auto, unfolding(model::specs::Calls::screening, model::specs::Numbers::check_as, model::specs::Numbers::number_of, model::specs::Refusals::and_then))]
+pub fn screening<'a>(
+    it: &[u8],
+    policy: &'a [u8],
+    script: &[u8],
+    answers: &[u8],
+) -> Result<&'a Policy, Refusal>
+    ensures checks { check_as result ≡ screening it.now policy.now script.now answers.now }
+    ensures same { IfOk result (λ passed. passed.now ≡ policy.now) }
 {
-    let c = entry(it, policy);
-    scripts::script_gate(c, script, answers.len())
+    let policy = entry(it, policy)?;
+    scripts::script_gate(script, answers.len())?;
+    Ok(policy)
 }

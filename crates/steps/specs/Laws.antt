@@ -1,10 +1,10 @@
 -- Laws of the decided step: that its one pass is the step of the definitions.
-use Rattle.std.specs.Prelude.{◌%◌, ◌≤◌, suc, zero, ℕ, eqb, ltb, length, Bool, ◌&&◌, ◌||◌, not, ◌≢◌, ◌≡◌}
-use Rattle.std.proofs.Common.{eq-eqb, ltb-false, ne_eqb, true≢false, ◌∙◌, arith}
+use Rattle.std.specs.Prelude.{◌%◌, ◌≤◌, suc, ℕ, eqb, length, Bool, ◌&&◌, ◌||◌, ◌≢◌, ◌≡◌}
+use Rattle.std.proofs.Common.{true≢false, ◌∙◌, arith}
 use Rattle.std.proofs.lemmas.Bool.{eqb-false}
 use Rattle.std.proofs.Math.Bool.{false, true}
 use mathlib.Core.List.{List, [], ◌∷◌}
-use Rattle.std.proofs.Math.Option.{none, some}
+use Rattle.std.specs.Prelude.{None, Some}
 use Rattle.std.proofs.Math.Path.{ap, refl, sym}
 use Rattle.std.proofs.Math.Decide.{ℕ_discrete}
 use Rattle.model.specs.Analysis.{permit_all}
@@ -15,65 +15,25 @@ use Rattle.model.proofs.Laws.Done.{Done, cap-pos, done-other, in-live, open-besi
 use Rattle.model.proofs.Laws.WellFormed.{WellFormed, dissolve-parent-stays, parent-not-self, place-parent-other}
 use Rattle.model.specs.Records.{at, capability, decode, encode, is_ambient, parent_of, records, update, update_from}
 use Rattle.model.specs.Refusals.{pass}
-use Rattle.model.specs.Steps.{decide, dissolve, dissolved, fit, move, outcome, outcome_by, place, placed, ready, rewritten, stands, step_bytes, to}
+use Rattle.model.specs.Steps.{Outcome, done-by, refused-with, decide, dissolve, dissolved, fit, move, outcome, outcome_by, place, placed, ready, rewritten, stands, step_bytes, to}
 use Rattle.model.specs.Validity.{validity}
 use Rattle.model.specs.declared.Rec.{Rec}
-use Rattle.steps.specs.Moves.{applied, capability_by, capability_of, fit_by, move_by, remade, stands_by, touched_by}
+use Rattle.steps.specs.Moves.{applied, fit_by, move_by, remade, stands_by, touched_by}
 use Rattle.steps.specs.declared.Move.{Move}
 use Rattle.model.specs.declared.Capability.{Capability}
 use Rattle.model.specs.declared.Capability.TheVariants.{In as cap-in, Open as cap-open, Out as cap-out}
-use Rattle.model.specs.declared.Outcome.{Outcome}
-use Rattle.model.specs.declared.Outcome.TheVariants.{Done as done-by, Refused as refused-with}
 
--- the kinds of capabilities
-pub kind-none : (n : ℕ) → (ltb n 2 || ltb 4 n) ≡ true → capability n ≡ none
-unfolding capability
-kind-none zero h = refl
-kind-none (suc zero) h = refl
-kind-none (suc (suc zero)) h = absurd (true≢false (sym h))
-kind-none (suc (suc (suc zero))) h = absurd (true≢false (sym h))
-kind-none (suc (suc (suc (suc zero)))) h = absurd (true≢false (sym h))
-kind-none (suc (suc (suc (suc (suc n))))) h = refl
+-- ready, by whether the capability is open
+module _ (s : List ℕ) (q : ℕ) {active : Bool} (m : length s % 8 ≡ 0) (f : active ≡ ambients (records s) q) where
+  pub ready-open : active ≡ ready cap-open (records s) q
+  unfolding ready
+  ready-open = f
 
-or_right_false : (a b : Bool) → (a || b) ≡ false → b ≡ false
-or_right_false true b h = absurd (true≢false h)
-or_right_false false b h = h
-
-pub kind-some : (n : ℕ) → (ltb n 2 || ltb 4 n) ≡ false → capability n ≡ some (capability_of n)
-unfolding capability capability_of capability_by
-kind-some zero h = absurd (true≢false h)
-kind-some (suc zero) h = absurd (true≢false h)
-kind-some (suc (suc zero)) h = refl
-kind-some (suc (suc (suc zero))) h = refl
-kind-some (suc (suc (suc (suc zero)))) h = refl
-kind-some (suc (suc (suc (suc (suc n))))) h = absurd (omega (arith, ltb-false 4 (suc (suc (suc (suc (suc n))))) (or_right_false (ltb (suc (suc (suc (suc (suc n))))) 2) _ h)))
-
-pub kind-in : (n : ℕ) → n ≡ 2 → capability_of n ≡ cap-in
-unfolding capability_of capability_by
-kind-in n e = simp (eq-eqb n 2 e)
-
-pub kind-out : (n : ℕ) → n ≢ 2 → n ≡ 3 → capability_of n ≡ cap-out
-unfolding capability_of capability_by
-kind-out n h e = simp (ne_eqb n 2 h, eq-eqb n 3 e)
-
-pub kind-open : (n : ℕ) → n ≢ 2 → n ≢ 3 → capability_of n ≡ cap-open
-unfolding capability_of capability_by
-kind-open n h l = simp (ne_eqb n 2 h, ne_eqb n 3 l)
-
--- ready, from the two tests of the kind
-ready_by : (x y : Bool) (its : List Rec) (q : ℕ) → (((not x && not y) || is_ambient (at its q)) && ambients its q) ≡ ready (capability_by x y) its q
-unfolding ready capability_by
-ready_by true y its q = refl
-ready_by false true its q = refl
-ready_by false false its q = refl
-
-pub ready-is : (s : List ℕ) (kind q : ℕ) (a : Rec) (b : Bool) → length s % 8 ≡ 0 → a ≡ decode s q → b ≡ ambients (records s) q →
-    (((not (eqb kind 2) && not (eqb kind 3)) || eqb a.kind 1) && b) ≡ ready (capability_of kind) (records s) q
-unfolding capability_of is_ambient
-ready-is s kind q a b m e f =
-    ap (λ r. ((not (eqb kind 2) && not (eqb kind 3)) || eqb r.kind 1) && b) (e ∙ sym (at-whole s m q))
-    ∙ ap (λ x. ((not (eqb kind 2) && not (eqb kind 3)) || eqb (at (records s) q).kind 1) && x) f
-    ∙ ready_by (eqb kind 2) (eqb kind 3) (records s) q
+  pub ready-other : (k : Capability) → k ≢ cap-open → {held : Bool} → held ≡ is_ambient (decode s q) → (held && active) ≡ ready k (records s) q
+  unfolding ready
+  ready-other cap-in n e = rw (at-whole s m q, e, f)
+  ready-other cap-out n e = rw (at-whole s m q, e, f)
+  ready-other cap-open n e = absurd (n refl)
 
 -- fit, from the three records
 and-true : (b : Bool) → (b && true) ≡ b
@@ -98,36 +58,36 @@ module _ (s : List ℕ) (m : length s % 8 ≡ 0) (actor partner : ℕ) (c : Rec)
   abbrev decided : Outcome
   decided = outcome permit_all (records s) actor partner
 
-  pub decide-10 : (ltb c.kind 2 || ltb 4 c.kind) ≡ true → decided ≡ refused-with 10
+  pub decide-10 : capability c.kind ≡ None → decided ≡ refused-with 10
   unfolding outcome outcome_by
-  decide-10 h = ap (λ o. outcome_by permit_all o (records s) actor partner) (ap (λ r. capability r.kind) here ∙ kind-none c.kind h)
+  decide-10 h = ap (λ o. outcome_by permit_all o (records s) actor partner) (ap (λ r. capability r.kind) here ∙ h)
 
-  module _ (some-kind : (ltb c.kind 2 || ltb 4 c.kind) ≡ false) where
-    by_tests : (x y : Bool) → ready (capability_of c.kind) (records s) c.parent ≡ x → fit permit_all (capability_of c.kind) (records s) actor partner ≡ y →
-        decided ≡ decide (capability_of c.kind) x y
+  module _ {k : Capability} (some-kind : capability c.kind ≡ Some k) where
+    by_tests : (x y : Bool) → ready k (records s) c.parent ≡ x → fit permit_all k (records s) actor partner ≡ y →
+        decided ≡ decide k x y
     unfolding outcome outcome_by
     by_tests x y p q =
-        ap (λ o. outcome_by permit_all o (records s) actor partner) (ap (λ r. capability r.kind) here ∙ kind-some c.kind some-kind)
-        ∙ ap (λ t. decide (capability_of c.kind) t (fit permit_all (capability_of c.kind) (records s) actor partner)) (ap (λ r. ready (capability_of c.kind) (records s) r.parent) here ∙ p)
-        ∙ ap (decide (capability_of c.kind) x) q
+        ap (λ o. outcome_by permit_all o (records s) actor partner) (ap (λ r. capability r.kind) here ∙ some-kind)
+        ∙ ap (λ t. decide k t (fit permit_all k (records s) actor partner)) (ap (λ r. ready k (records s) r.parent) here ∙ p)
+        ∙ ap (decide k x) q
 
-    pub decide-11 : ready (capability_of c.kind) (records s) c.parent ≡ false → decided ≡ refused-with 11
+    pub decide-11 : ready k (records s) c.parent ≡ false → decided ≡ refused-with 11
     unfolding decide
     decide-11 h = by_tests false _ h refl
 
-    module _ (is-ready : ready (capability_of c.kind) (records s) c.parent ≡ true) (a p : Rec) (ea : a ≡ decode s c.parent) (ep : p ≡ decode s partner) where
-      fit_is : fit_by (capability_of c.kind) c a p partner ≡ fit permit_all (capability_of c.kind) (records s) actor partner
+    module _ (is-ready : ready k (records s) c.parent ≡ true) (a p : Rec) (ea : a ≡ decode s c.parent) (ep : p ≡ decode s partner) where
+      fit_is : fit_by k c a p partner ≡ fit permit_all k (records s) actor partner
       fit_is =
-          ap (λ x. fit_by (capability_of c.kind) c x p partner) (ea ∙ sym (at-whole s m c.parent))
-          ∙ ap (λ x. fit_by (capability_of c.kind) c (at (records s) c.parent) x partner) (ep ∙ sym (at-whole s m partner))
-          ∙ ap (λ r. fit_by (capability_of c.kind) r (at (records s) r.parent) (at (records s) partner) partner) (sym here)
-          ∙ fit_at (capability_of c.kind) (records s) actor partner
+          ap (λ x. fit_by k c x p partner) (ea ∙ sym (at-whole s m c.parent))
+          ∙ ap (λ x. fit_by k c (at (records s) c.parent) x partner) (ep ∙ sym (at-whole s m partner))
+          ∙ ap (λ r. fit_by k r (at (records s) r.parent) (at (records s) partner) partner) (sym here)
+          ∙ fit_at k (records s) actor partner
 
-      pub decide-12 : fit_by (capability_of c.kind) c a p partner ≡ false → decided ≡ refused-with 12
+      pub decide-12 : fit_by k c a p partner ≡ false → decided ≡ refused-with 12
       unfolding decide
       decide-12 h = by_tests true false is-ready (sym fit_is ∙ h)
 
-      pub decide-done : fit_by (capability_of c.kind) c a p partner ≡ true → decided ≡ done-by (capability_of c.kind)
+      pub decide-done : fit_by k c a p partner ≡ true → decided ≡ done-by k
       unfolding decide
       decide-done h = by_tests true true is-ready (sym fit_is ∙ h)
 

@@ -1,21 +1,11 @@
 -- A step that is decided, as the code holds it, and what it makes of each record.
-use Rattle.std.specs.Prelude.{ℕ, eqb, Bool, ◌&&◌, ◌||◌, false, not, true, List}
+use Rattle.std.specs.Prelude.{ℕ, eqb, Bool, ◌&&◌, ◌||◌, not, List}
 use Rattle.model.specs.Records.{is_ambient, update}
 use Rattle.model.specs.Steps.{dissolved, placed}
 use Rattle.model.specs.declared.Rec.{Rec}
 use Rattle.steps.specs.declared.Move.{Move}
 use Rattle.model.specs.declared.Capability.{Capability}
 use Rattle.model.specs.declared.Capability.TheVariants.{In as cap-in, Open as cap-open, Out as cap-out}
-
--- the capability of a kind, by whether the kind is 2 and whether it is 3
-unfoldable pub capability_by : Bool → Bool → Capability
-capability_by true y = cap-in
-capability_by false true = cap-out
-capability_by false false = cap-open
-
--- the capability of a kind from 2 to 4
-unfoldable pub capability_of : ℕ → Capability
-capability_of kind = capability_by (eqb kind 2) (eqb kind 3)
 
 -- where the partner b stands: c's record, that of c's parent and that of b
 unfoldable pub stands_by : Capability → Rec → Rec → Rec → ℕ → Bool

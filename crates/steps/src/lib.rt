@@ -3,14 +3,15 @@
 
 ghost use Rattle.std.specs.Prelude.{◌≡◌, ◌%◌, ◌*◌, ◌≤◌, length};
 ghost use Rattle.model.specs.Analysis.{permit_all};
+ghost use Rattle.model.specs.Numbers.{outcome_as};
 ghost use Rattle.model.specs.Records.{decode, encode, records};
 ghost use Rattle.model.specs.Refusals.{pass};
 ghost use Rattle.model.specs.Steps.{dissolved, outcome, placed, ready, step_bytes};
 ghost use Rattle.model.specs.Validity.{validity};
 ghost use Rattle.records.specs.Written.{with_record};
-ghost use Rattle.steps.specs.Moves.{applied, capability_of, fit_by, move_by, remade, stands_by, touched_by};
+ghost use Rattle.steps.specs.Moves.{applied, fit_by, move_by, remade, stands_by, touched_by};
 
-use model::{Capability, Outcome, Rec};
+use model::{Capability, Cause, Rec};
 
 // A step that is decided. The actor goes, and so does opened, which is the actor again where nothing is opened; the
 // children of both go to home; mover, which is 0 where none moves, goes to dest.
@@ -24,69 +25,59 @@ struct Move {
 }
 
 // Whether the actor's parent is an ambient where it must be, and all above the actor are.
-fn ready(it: &[u8], c: Rec) -> bool
+fn ready(it: &[u8], k: Capability, parent: u16) -> bool
     requires { length it.now % 8 ≡ 0 }
-    ensures { result ≡ ready (capability_of c.kind) (records it.now) c.parent }
+    ensures { result ≡ ready k (records it.now) parent }
 {
-    let a = records::record_at(it, c.parent);
-    let held = ((c.kind != 2) & (c.kind != 3)) | (a.kind == 1);
-    held & climbing::ambients(it, c.parent, it.len() / 8 + 1)
+    let active = climbing::ambients(it, parent, it.len() / 8 + 1);
+    match k {
+        Capability::Open => active,
+        _ => records::record_at(it, parent).is_ambient() & active,
+    }
 }
 
 // Whether the partner stands where it must: c is the actor, a its parent, p the partner.
-fn stands(c: Rec, a: Rec, p: Rec, partner: u16) -> bool
-    ensures { result ≡ stands_by (capability_of c.kind) c a p partner }
+#[tactic(auto, unfolding(crate::specs::Moves::stands_by))]
+fn stands(k: Capability, c: Rec, a: Rec, p: Rec, partner: u16) -> bool
+    ensures { result ≡ stands_by k c a p partner }
 {
-    if c.kind == 2 {
-        return (partner != c.parent) & (p.parent == a.parent);
+    match k {
+        Capability::In => (partner != c.parent) & (p.parent == a.parent),
+        Capability::Out => partner == a.parent,
+        Capability::Open => p.parent == c.parent,
     }
-    if c.kind == 3 {
-        return partner == a.parent;
-    }
-    p.parent == c.parent
 }
 
 // Whether the partner is an ambient with the actor's name that stands where it must.
-fn fits(c: Rec, a: Rec, p: Rec, partner: u16) -> bool
-    ensures { result ≡ fit_by (capability_of c.kind) c a p partner }
+#[tactic(auto, unfolding(crate::specs::Moves::fit_by))]
+fn fits(k: Capability, c: Rec, a: Rec, p: Rec, partner: u16) -> bool
+    ensures { result ≡ fit_by k c a p partner }
 {
-    ((p.kind == 1) & (p.name == c.name)) & stands(c, a, p, partner)
-}
-
-// The capability of a kind from 2 to 4.
-fn capability_of(kind: u8) -> Capability
-    ensures { result ≡ capability_of kind }
-{
-    if kind == 2 {
-        return Capability::In;
-    }
-    if kind == 3 {
-        return Capability::Out;
-    }
-    Capability::Open
+    (p.is_ambient() & (p.name == c.name)) & stands(k, c, a, p, partner)
 }
 
 // Whether a step is done or refused, 10, 11 and 12 in this order.
-fn decide(it: &[u8], actor: u16, partner: u16) -> Outcome
+fn decide(it: &[u8], actor: u16, partner: u16) -> Result<Capability, Cause>
     requires { length it.now % 8 ≡ 0 }
-    ensures { result ≡ outcome permit_all (records it.now) actor partner }
+    ensures { outcome_as result ≡ outcome permit_all (records it.now) actor partner }
 {
     let c = records::record_at(it, actor);
-    if (c.kind < 2) | (4 < c.kind) {
-        return Outcome::Refused(10);
-    }
-    if !ready(it, c) {
-        return Outcome::Refused(11);
+    let Some(k) = c.capability() else {
+        return Err(Cause::Actor);
+    };
+    if !ready(it, k, c.parent) {
+        return Err(Cause::Active);
     }
     let a = records::record_at(it, c.parent);
     let p = records::record_at(it, partner);
-    if !fits(c, a, p, partner) {
-        return Outcome::Refused(12);
+    if !fits(k, c, a, p, partner) {
+        return Err(Cause::Partner);
     }
-    Outcome::Done(capability_of(c.kind))
+    Ok(k)
 }
 
 // What a step that is done does: home is the actor's parent, above the partner's.
+#[tactic(auto, unfolding(crate::specs::Moves::move_by))]
 fn move_of(k: Capability, actor: u16, partner: u16, home: u16, above: u16) -> Move
     ensures { result ≡ move_by k actor partner home above }
 {
@@ -148,6 +139,7 @@ fn remade(m: Move, i: u16, r: Rec) -> Rec
 }
 
 // Whether the move changes record i, whose parent is p.
+#[tactic(auto, unfolding(crate::specs::Moves::touched_by))]
 fn touched(m: Move, i: u16, p: u16) -> bool
     ensures { result ≡ touched_by m i p }
 {
@@ -172,26 +164,20 @@ fn apply(it: &mut [u8], m: Move)
     requires { validity it.old ≡ pass }
     ensures { it.new ≡ encode (applied m (records it.old)) }
 {
-    let n = (it.len() / 8) as u16;
-    let mut i: u16 = 0;
-    while i < n {
+    for i in 0..(it.len() / 8) as u16 {
         remake(it, m, i + 1);
-        i += 1;
     }
 }
 
 // The step on an itinerary that is known to be valid.
-pub fn act(it: &mut [u8], actor: u16, partner: u16) -> Outcome
+pub fn act(it: &mut [u8], actor: u16, partner: u16) -> Result<Capability, Cause>
     requires { validity it.old ≡ pass }
-    ensures { (result ≡ outcome permit_all (records it.old) actor partner)
-        × (it.new ≡ step_bytes permit_all it.old actor partner) }
+    ensures outcome { outcome_as result ≡ outcome permit_all (records it.old) actor partner }
+    ensures bytes { it.new ≡ step_bytes permit_all it.old actor partner }
 {
-    let o = decide(it, actor, partner);
-    let Outcome::Done(k) = o else {
-        return o;
-    };
+    let k = decide(it, actor, partner)?;
     let c = records::record_at(it, actor);
     let p = records::record_at(it, partner);
     apply(it, move_of(k, actor, partner, c.parent, p.parent));
-    o
+    Ok(k)
 }

@@ -1,11 +1,11 @@
 // The least set of a table's bits that is closed under the rules.
-// The table is 193 words: row a of I in words 2 a and 2 a + 1, row a of H in word 128 + a, S in word 192; partners and
-// movers are 192 words.
+// Row a of I is in words 2 a and 2 a + 1 of the table, row a of H in word 128 + a, S in word 192.
 // With the movers fixed a sweep closes only the rows of I that read a row which has changed. When I is closed with all its
 // movers, S is.
 #![tactic(auto)]
 
-ghost use Rattle.std.specs.Prelude.{◌≡◌, ℕ, ◌<◌, length, get_or};
+ghost use Rattle.std.specs.Prelude.{◌≡◌, ℕ, ◌<◌, get_or};
+ghost use Rattle.model.proofs.Laws.Sets.{Narrow};
 ghost use Rattle.tables.specs.Grow.{Smallest};
 ghost use Rattle.table_words.specs.BitSets.{Bits};
 ghost use Rattle.table_partners.specs.Rules.{RulesClosed};
@@ -14,31 +14,28 @@ ghost use Rattle.table_closure.specs.Capabilities.{capabilities};
 ghost use Rattle.table_closure.specs.Rounds.{NestingGrown};
 ghost use Rattle.table_closure.specs.Sweeps.{Owed, Swept};
 
+use table_words::{Kinds, Words};
+
 // The rules of all rows that read a row which has changed, in the sweep before or in this one; the rows that changed.
-fn sweep(w: &mut [u64], movers: &[u64], dirty_before: u64) -> u64
-    requires w_len { length w.old ≡ 193 }
-    requires movers_len { length movers.now ≡ 192 }
-    requires owed { (q : ℕ) → q < 64 → Owed movers.now w.old dirty_before q }
+fn sweep(w: &mut Words, movers: &Kinds, dirty_before: u64) -> u64
+    requires { (q : ℕ) → q < 64 → Owed movers.now w.old dirty_before q }
     ensures { Swept movers.now w.old w.new result }
 {
     let mut dirty: u64 = 0;
-    let mut p: usize = 0;
-    while p < 64 {
+    for p in 0..64 {
         if (dirty_before | dirty) & (w[2 * p] | (1u64 << p)) != 0 {
             dirty |= table_rows::close_row(w, movers, p);
         }
-        p += 1;
     }
     dirty
 }
 
 // Grows I to the least one around it that has the rules of the movers.
-fn to_fixpoint(w: &mut [u64], movers: &[u64])
-    requires w_len { length w.old ≡ 193 }
-    requires movers_len { length movers.now ≡ 192 }
-    ensures { Smallest (NestingClosed movers.now) (Bits w.old) (Bits w.new) }
+fn to_fixpoint(w: &mut Words, movers: &Kinds)
+    ensures smallest { Smallest (NestingClosed movers.now) (Bits w.old) (Bits w.new) }
+    ensures narrow { Narrow 64 w.new }
 {
-    let mut dirty: u64 = 18446744073709551615;
+    let mut dirty: u64 = u64::MAX;
     loop {
         let changed = sweep(w, movers, dirty);
         if changed == 0 {
@@ -49,26 +46,20 @@ fn to_fixpoint(w: &mut [u64], movers: &[u64])
 }
 
 // How many pairs of a label and a capability are in I.
-fn count_capabilities(w: &[u64]) -> u32
-    requires { length w.now ≡ 193 }
+fn count_capabilities(w: &Words) -> u32
     ensures { result ≡ capabilities w.now 64 }
 {
-    let mut sum: u32 = 0;
-    let mut label: usize = 0;
-    while label < 64 {
-        sum += u64::count_ones(w[1 + 2 * label]);
-        label += 1;
+    let mut sum = 0;
+    for label in 0..64 {
+        sum += w[1 + 2 * label].count_ones();
     }
     sum
 }
 
 // Grows I to the least one around it that has all rules, and fills in its movers. Only the rule of open adds
 // capabilities to I, and only these add movers.
-fn close_nesting(w: &mut [u64], partners: &[u64], movers: &mut [u64])
-    requires w_len { length w.old ≡ 193 }
-    requires partners_len { length partners.now ≡ 192 }
-    requires movers_len { length movers.old ≡ 192 }
-    requires cleared { (i : ℕ) → get_or movers.old i 0 ≡ 0 }
+fn close_nesting(w: &mut Words, partners: &Kinds, movers: &mut Kinds)
+    requires { (i : ℕ) → get_or movers.old i 0 ≡ 0 }
     ensures { NestingGrown partners.now movers.new (Bits w.old) (Bits w.new) }
 {
     let mut count = count_capabilities(w);
@@ -84,9 +75,7 @@ fn close_nesting(w: &mut [u64], partners: &[u64], movers: &mut [u64])
 }
 
 // Grows the table to the least one around it that is closed under the rules.
-pub fn close(w: &mut [u64], partners: &[u64])
-    requires w_len { length w.old ≡ 193 }
-    requires partners_len { length partners.now ≡ 192 }
+pub fn close(w: &mut Words, partners: &Kinds)
     ensures { Smallest (RulesClosed partners.now) (Bits w.old) (Bits w.new) }
 {
     let mut movers = [0u64; table_words::KIND_WORDS];

@@ -1,6 +1,6 @@
 -- The parts of the check make up when a table holds.
 use Rattle.std.specs.Prelude.{◌+◌, ◌<◌, ◌≤◌, ℕ, length, Bool, false, true, List, ◌≡◌}
-use borrow.Author.Tests.{eq-eqb, leb-true, ne_eqb}
+use borrow.Author.Tests.{leb-true}
 use Rattle.std.proofs.Common.{true≢false, ◌∙◌, ap₂, sym, arith}
 use Rattle.table_holds.specs.Tests.{nesting_holds, stood}
 use Rattle.model.specs.Analysis.{permit_all, holds, only_if}
@@ -74,10 +74,9 @@ pub read-stood : (s : List ℕ) (v : validity s ≡ pass) (i : ℕ) (l : i + 1 �
 read-stood s v i l r e T c q = ap₂ (λ (x : ℕ) (y : Rec). stood T x y) (contained s v i l r e c q) (read_at s v i l r e)
 
 -- an ambient of the right form
-pub ambient-form : (r : Rec) → shape r ≡ true → r.kind ≡ 1 → (r.label < 64) × (r.name < 64)
-unfolding is_ambient name_right name_by
-ambient-form r h k =
-    let a : is_ambient r ≡ true = eq-eqb r.kind 1 k in
+pub ambient-form : (r : Rec) → shape r ≡ true → is_ambient r ≡ true → (r.label < 64) × (r.name < 64)
+unfolding name_right name_by
+ambient-form r h a =
     let n = amb-nested r a in
     let m : name_by true r.name ≡ true = rw n at (shape-named r h) in
     let x = leb-true r.name 63 m in
@@ -88,10 +87,10 @@ module _ (T : Table) (c : ℕ) (r : Rec) where
   unfolding stood
   stood-not h = rw h
 
-  pub stood-other : T.I c r.label ≡ true → (r.kind ≡ 1 → ⊥) → true ≡ stood T c r
-  unfolding stood is_ambient only_if
-  stood-other h k = rw (h, ne_eqb r.kind 1 k)
+  pub stood-other : T.I c r.label ≡ true → is_ambient r ≡ false → true ≡ stood T c r
+  unfolding stood only_if
+  stood-other h k = rw (h, k)
 
-  pub stood-ambient : T.I c r.label ≡ true → r.kind ≡ 1 → T.H r.label r.name ≡ stood T c r
-  unfolding stood is_ambient only_if
-  stood-ambient h k = rw (h, eq-eqb r.kind 1 k)
+  pub stood-ambient : T.I c r.label ≡ true → is_ambient r ≡ true → T.H r.label r.name ≡ stood T c r
+  unfolding stood only_if
+  stood-ambient h k = rw (h, k)

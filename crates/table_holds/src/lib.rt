@@ -1,7 +1,7 @@
-// Whether a table holds for an itinerary and a policy. A table has 1,544 bytes, a policy 64.
+// Whether a table holds for an itinerary and a policy.
 #![tactic(auto)]
 
-ghost use Rattle.std.specs.Prelude.{◌≡◌, true, ◌<◌, length};
+ghost use Rattle.std.specs.Prelude.{◌≡◌, true, ◌<◌};
 ghost use Rattle.model.specs.Analysis.{permit_all, holds};
 ghost use Rattle.model.specs.Finite.{every};
 ghost use Rattle.model.specs.Validity.{shape, validity};
@@ -11,30 +11,26 @@ ghost use Rattle.model.specs.Tables.{bits, is_high, parts, suspects};
 ghost use Rattle.table_holds.specs.Tests.{nesting_holds, stood};
 ghost use Rattle.enclosures.specs.Notes.{Nearests};
 
-use model::Rec;
+use model::{Above, Rec};
+use tables::{HIGH, Policy, Table};
 
 // Whether every high label is suspect.
-fn highs_hold(policy: &[u8], table: &[u8]) -> bool
-    requires policy_len { length policy.now ≡ 64 }
-    requires table_len { length table.now ≡ 1544 }
+fn highs_hold(policy: &Policy, table: &Table) -> bool
     ensures { result ≡ every 64 (is_high policy.now) (suspects table.now) }
 {
-    let mut k: usize = 0;
-    while k < 64 {
-        if policy[k] == 1 {
+    for k in 0..64 {
+        if policy[k] == HIGH {
             if !tables::bit(table, tables::SUSPECTS + k) {
                 return false;
             }
         }
-        k += 1;
     }
     true
 }
 
 // Whether a record may stand in its container and, if an ambient, bear its name.
-fn stands(r: Rec, table: &[u8], container: u8) -> bool
+fn stands(r: Rec, table: &Table, container: u8) -> bool
     requires shaped { shape r ≡ true }
-    requires table_len { length table.now ≡ 1544 }
     requires container_bound { container < 64 }
     ensures { result ≡ stood (parts (bits table.now)) container r }
 {
@@ -42,53 +38,43 @@ fn stands(r: Rec, table: &[u8], container: u8) -> bool
     if !tables::bit(table, 128 * (container as usize) + label) {
         return false;
     }
-    if r.kind != 1 {
+    if !r.is_ambient() {
         return true;
     }
     tables::bit(table, tables::NAMES + (64 * label + (r.name as usize)))
 }
 
-// Whether every ambient and capability may stand where it stands and every ambient bear its name, with the nearest labels
-// from each number on upwards.
-fn nesting_holds_by_labels(it: &[u8], table: &[u8], labels: &[u8]) -> bool
+// Whether every ambient and capability may stand where it stands and every ambient bear its name, with what encloses each
+// number.
+fn nesting_holds_by(it: &[u8], table: &Table, notes: &[Option<Above>]) -> bool
     requires valid { validity it.now ≡ pass }
-    requires table_len { length table.now ≡ 1544 }
-    requires nearests { Nearests it.now labels.now }
+    requires nearests { Nearests it.now notes.now }
     ensures { result ≡ nesting_holds (records it.now) (parts (bits table.now)) }
 {
-    let n = (it.len() / 8) as u16;
-    let mut i: u16 = 0;
-    while i < n {
+    for i in 0..(it.len() / 8) as u16 {
         let r = records::record_at(it, i + 1);
-        if (1 <= r.kind) & (r.kind <= 4) {
-            if !stands(r, table, labels[r.parent as usize]) {
+        if r.is_nested() {
+            if !stands(r, table, notes[r.parent as usize].unwrap().label) {
                 return false;
             }
         }
-        i += 1;
     }
     true
 }
 
 // Whether every ambient and capability may stand where it stands and every ambient bear its name.
-fn nesting_holds(it: &[u8], policy: &[u8], table: &[u8]) -> bool
-    requires valid { validity it.now ≡ pass }
-    requires policy_len { length policy.now ≡ 64 }
-    requires table_len { length table.now ≡ 1544 }
+fn nesting_holds(it: &[u8], policy: &Policy, table: &Table) -> bool
+    requires { validity it.now ≡ pass }
     ensures { result ≡ nesting_holds (records it.now) (parts (bits table.now)) }
 {
-    let mut labels = [255u8; 1025];
-    labels[0] = 0;
-    let mut boundaries = [0u16; 1025];
-    enclosures::enclose(it, policy, &mut labels, &mut boundaries);
-    nesting_holds_by_labels(it, table, &labels)
+    let mut notes = enclosures::notes();
+    enclosures::enclose(it, policy, &mut notes);
+    nesting_holds_by(it, table, &notes)
 }
 
 // Whether the table holds.
-pub fn holds(it: &[u8], policy: &[u8], table: &[u8]) -> bool
-    requires valid { validity it.now ≡ pass }
-    requires policy_len { length policy.now ≡ 64 }
-    requires table_len { length table.now ≡ 1544 }
+pub fn holds(it: &[u8], policy: &Policy, table: &Table) -> bool
+    requires { validity it.now ≡ pass }
     ensures { result ≡ holds permit_all policy.now (records it.now) (parts (bits table.now)) }
 {
     if !highs_hold(policy, table) {

@@ -1,7 +1,8 @@
-// Making the least table that holds. A table has 1,544 bytes, a policy 64.
+// Making the least table that holds.
 #![tactic(auto)]
 
 ghost use Rattle.std.specs.Prelude.{◌≡◌, length};
+ghost use Rattle.model.proofs.Laws.Sets.{Narrow};
 ghost use Rattle.model.specs.Analysis.{permit_all};
 ghost use Rattle.model.specs.Least.{least_table};
 ghost use Rattle.model.specs.Records.{records};
@@ -10,14 +11,25 @@ ghost use Rattle.model.specs.Tables.{bits, total};
 ghost use Rattle.model.specs.Validity.{validity};
 ghost use Rattle.table_least.specs.Least.{LeastClosed};
 
+use tables::{Policy, Table};
+
+// A table's bytes as an array.
+fn whole(table: &[u8]) -> &Table
+    requires { length table.now ≡ 1544 }
+    ensures { result.now ≡ table.now }
+{
+    table.as_array().unwrap()
+}
+
 // Closes a table under the rules of the itinerary's capabilities.
 fn close_table(it: &[u8], table: &mut [u8])
     requires valid { validity it.now ≡ pass }
     requires table_len { length table.old ≡ 1544 }
-    ensures { LeastClosed (records it.now) (bits table.old) (bits table.new) }
+    ensures closed { LeastClosed (records it.now) (bits table.old) (bits table.new) }
+    ensures narrow { Narrow 8 table.new }
 {
     let mut w = [0u64; table_words::TABLE_WORDS];
-    table_words::load(table, &mut w);
+    table_words::load(whole(table), &mut w);
     let mut partners = [0u64; table_words::KIND_WORDS];
     table_partners::partners_of(it, &w, &mut partners);
     table_closure::close(&mut w, &partners);
@@ -25,28 +37,24 @@ fn close_table(it: &[u8], table: &mut [u8])
 }
 
 // How many bits are one.
-fn count_ones(table: &[u8]) -> u16
-    requires { length table.now ≡ 1544 }
+fn count_ones(table: &Table) -> u16
     ensures { result ≡ total table.now }
 {
-    let mut sum: u16 = 0;
-    let mut i: usize = 0;
-    while i < tables::TABLE_BYTES {
-        sum += u8::count_ones(table[i]) as u16;
-        i += 1;
+    let mut sum = 0;
+    for byte in table {
+        sum += byte.count_ones() as u16;
     }
     sum
 }
 
 // Writes the least table that holds, and counts its bits.
-pub fn write_least(it: &[u8], policy: &[u8], table: &mut [u8]) -> u16
-    requires table_len { length table.old ≡ 1544 }
+pub fn write_least(it: &[u8], policy: &Policy, table: &mut [u8]) -> u16
     requires valid { validity it.now ≡ pass }
-    requires policy_len { length policy.now ≡ 64 }
+    requires table_len { length table.old ≡ 1544 }
     ensures made { table.new ≡ least_table permit_all policy.now (records it.now) }
     ensures counted { result ≡ total table.new }
 {
     table_seed::seed(it, policy, table);
     close_table(it, table);
-    count_ones(table)
+    count_ones(whole(table))
 }

@@ -2,7 +2,7 @@
 use Rattle.std.specs.Prelude.{◌%◌, ◌*◌, ◌+◌, ◌-◌, ◌/◌, ◌<◌, ◌≤◌, ℕ, leb, get_or, length, Bool, false, List, ◌≡◌}
 use Rattle.std.proofs.Common.{le-leb, leb-true, ne_eqb, true≢false, ⊎_elim, ◌∙◌, ap, subst, sym}
 use Rattle.std.proofs.Math.Bool.{true}
-use Rattle.std.proofs.Math.Option.{some}
+use Rattle.std.specs.Prelude.{Some}
 use Rattle.std.proofs.Math.Path.{refl}
 use Rattle.std.proofs.Math.Decide.{dec_le, ℕ_discrete}
 use native.Mathlib.Omega.{arith}
@@ -119,13 +119,13 @@ module _ {its : List Rec} (wf : WellFormed its) (w z bearers : List ℕ) (zero :
 
 -- ---- the rules
 
-pub cap-is : (r : Rec) (k : Capability) → capability r.kind ≡ some k → is_capability r ≡ true
+pub cap-is : (r : Rec) (k : Capability) → capability r.kind ≡ Some k → is_capability r ≡ true
 unfolding is_capability kind_of
 cap-is r cap-in e = rw (kind-of r.kind cap-in e)
 cap-is r cap-out e = rw (kind-of r.kind cap-out e)
 cap-is r cap-open e = rw (kind-of r.kind cap-open e)
 
-pub kind-cap : (x : ℕ) (k : Capability) → x ≡ kind_of k → capability x ≡ some k
+pub kind-cap : (x : ℕ) (k : Capability) → x ≡ kind_of k → capability x ≡ Some k
 unfolding capability kind_of
 kind-cap x cap-in e = rw e
 kind-cap x cap-out e = rw e
@@ -144,7 +144,7 @@ module _ (r : Rec) (f : CapabilityForm r) (c : is_capability r ≡ true) (i : �
 module _ {its : List Rec} (wf : WellFormed its) (H : ℕ → ℕ → Bool) (n : ℕ) (p : List ℕ) (F : Partners its H n p) (u : Set) where
   -- the rules of the words give those of the records
   pub closed-rule : ((b x : ℕ) → b < 64 → x < 64 → (parts u).H b x ≡ true → H b x ≡ true) → RulesClosed p u →
-      (j : ℕ) (k : Capability) → j ≤ n → capability (at its j).kind ≡ some k → RuleOf its u k j
+      (j : ℕ) (k : Capability) → j ≤ n → capability (at its j).kind ≡ Some k → RuleOf its u k j
   unfolding slot kind_of place_i place_s
   closed-rule sub C j k l e = go k e
     where
@@ -166,14 +166,14 @@ module _ {its : List Rec} (wf : WellFormed its) (H : ℕ → ℕ → Bool) (n : 
       bears : (i b : ℕ) → slot (at its j) ≡ i → b < 64 → (parts u).H b (at its j).name ≡ true → test_bit (get_or p i 0) b ≡ true
       bears i b q lb h = F.has j i b l (record { capable = capable; here = q; below = lb; names = sub b (at its j).name lb able.name h })
 
-      go : (k : Capability) → capability (at its j).kind ≡ some k → RuleOf its u k j
+      go : (k : Capability) → capability (at its j).kind ≡ Some k → RuleOf its u k j
       go cap-in q = λ a b x la lb lx may ia ixa ixb hb. let k = kind-of _ cap-in q in C.ins t a b x below la lb lx (stands a ia) ixa ixb (bears t b (omega arith) lb hb)
       go cap-out q = λ a b x la lb lx may ia iba ixb hb. let k = kind-of _ cap-out q in C.outs t a b x below la lb lx (stands a ia) iba ixb (bears (64 + t) b (omega arith) lb hb)
       go cap-open q = λ b x lb lx may ix ixb hb. let k = kind-of _ cap-open q in C.opens t b x below lb lx (stands x ix) ixb (bears (128 + t) b (omega arith) lb hb)
 
   -- the rules of all records give those of the words
   pub rules-closed : ((b x : ℕ) → b < 64 → x < 64 → H b x ≡ true → (parts u).H b x ≡ true) →
-      ((j : ℕ) (k : Capability) → capability (at its j).kind ≡ some k → RuleOf its u k j) → RulesClosed p u
+      ((j : ℕ) (k : Capability) → capability (at its j).kind ≡ Some k → RuleOf its u k j) → RulesClosed p u
   unfolding kind_of place_i place_s
   rules-closed sub f = record {
     ins = λ t a b x lt la lb lx ia ixa ixb bn.

@@ -1,6 +1,6 @@
 -- The rules of a table, on the set u of its bits: of the capability records, and folded into words of partners.
 use Rattle.std.specs.Prelude.{◌+◌, ◌<◌, ℕ, get_or, true, List, ◌≡◌}
-use Rattle.std.proofs.Math.Option.{some}
+use Rattle.std.specs.Prelude.{Some}
 use Rattle.model.specs.Analysis.{permit_all}
 use Rattle.model.proofs.Laws.Holding.{Rule}
 use Rattle.model.specs.Records.{at, capability}
@@ -16,7 +16,7 @@ RuleOf its u k j = Rule permit_all (parts u) k (at its j).label (at its j).name
 
 -- the rules of all capability records
 abbrev pub AllRules : List Rec → Set → Type 0
-AllRules its u = (j : ℕ) (k : Capability) → capability (at its j).kind ≡ some k → RuleOf its u k j
+AllRules its u = (j : ℕ) (k : Capability) → capability (at its j).kind ≡ Some k → RuleOf its u k j
 
 -- the rules of in, out and open, where b bears what the capability of label 64 + t targets: words from 0 for in, from 64
 -- for out, from 128 for open

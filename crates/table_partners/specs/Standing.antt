@@ -1,7 +1,5 @@
 -- When a table holds: the bits asked for one by one, and the rules. A record as the loops read it.
 use Rattle.std.specs.Prelude.{◌*◌, ◌+◌, ◌-◌, ◌<◌, ◌≤◌, ℕ, length, false, List, ◌≡◌}
-use borrow.Author.Tests.{eq-eqb, ne_eqb}
-use Rattle.std.proofs.Math.Dec.{eqb}
 use Rattle.std.proofs.Math.Bool.{true}
 use Rattle.std.proofs.Common.{◌∙◌, sym, arith}
 use Rattle.std.proofs.Math.Path.{ap, ap₂, subst}
@@ -65,10 +63,10 @@ module _ (s : List ℕ) (v : validity s ≡ pass) (i : ℕ) (l : i + 1 ≤ count
     pub test : bearing (records s) i ≡ true
     pub cell : 64 * r.label + r.name ≡ name_cell (records s) i
 
-  pub bears : r.kind ≡ 1 → Bears
-  unfolding bearing name_cell is_ambient
+  pub bears : is_ambient r ≡ true → Bears
+  unfolding bearing name_cell
   bears k =
-      let a : is_ambient (at (records s) (i + 1)) ≡ true = ap (λ (x : Rec). eqb x.kind 1) (sym read_at) ∙ eq-eqb r.kind 1 k in
+      let a : is_ambient (at (records s) (i + 1)) ≡ true = ap is_ambient (sym read_at) ∙ k in
       record {
         label = rw read_at (small wf (i + 1) a);
         name = rw read_at (named wf (i + 1));
@@ -76,9 +74,9 @@ module _ (s : List ℕ) (v : validity s ≡ pass) (i : ℕ) (l : i + 1 ≤ count
         cell = ap (λ (x : Rec). 64 * x.label + x.name) read_at;
       }
 
-  pub bears-not : (r.kind ≡ 1 → ⊥) → bearing (records s) i ≡ false
-  unfolding bearing is_ambient
-  bears-not k = ap (λ (x : Rec). eqb x.kind 1) (sym read_at) ∙ ne_eqb r.kind 1 k
+  pub bears-not : is_ambient r ≡ false → bearing (records s) i ≡ false
+  unfolding bearing
+  bears-not k = ap is_ambient (sym read_at) ∙ k
 
   -- the container is what the parent shows
   pub contained : (c : ℕ) → c ≡ view nesting (records s) r.parent → c ≡ container (records s) (i + 1)

@@ -12,15 +12,17 @@ use Rattle.tables.specs.Grow.{Grown, grown-none}
 use Rattle.table_words.specs.BitSets.{Bits, WordHas, at-word, one_bit, or_word, or_at, word-make}
 use Rattle.table_words.specs.Sums.{Less, less-bits}
 
--- from w to w' no rows changed but those of c, which are among R; and if c has one, the table has more bits
+-- from w to w' no rows changed but those of c, which are among R; and if c has one, the table has more bits. Words of 64 bits
+-- stay so.
 pub record RowsChanged (R : ℕ → Type 0) (w w' : List ℕ) (c : ℕ) : Type 0 where
   pub among : (x : ℕ) → test_bit c x ≡ true → R x
   pub rest : (i : ℕ) → test_bit c (i / 2) ≡ false → get_or w' i 0 ≡ get_or w i 0
   pub le : total w ≤ total w'
   pub more : (c ≡ 0) ⊎ (total w < total w')
+  pub narrow : Narrow 64 w → Narrow 64 w'
 
 pub changed-none : {R : ℕ → Type 0} {w : List ℕ} → RowsChanged R w w 0
-changed-none {w = w} = record { among = λ x t. never _ t (zero_bit x); rest = λ i d. refl; le = le_refl (total w); more = inl refl }
+changed-none {w = w} = record { among = λ x t. never _ t (zero_bit x); rest = λ i d. refl; le = le_refl (total w); more = inl refl; narrow = λ n. n }
 
 or-none : (a b k : ℕ) → test_bit (bit_or a b) k ≡ false → (test_bit a k ≡ false) × (test_bit b k ≡ false)
 or-none a b k d = (
@@ -35,10 +37,11 @@ changed_then {w = w} {w₂ = w₂} {c = c} {c₁ = c₁} a b f g = record {
   rest = λ i d. let e = or-none c c₁ (i / 2) d in b.rest i e.1 ∙ a.rest i e.0;
   le = (let p = a.le in let q = b.le in omega arith);
   more = ⊎_elim (λ e. ⊎_elim (λ e₁. inl (ap₂ bit_or e e₁)) (λ l. inr (let p = a.le in omega arith)) b.more) (λ l. inr (let q = b.le in omega arith)) a.more;
+  narrow = λ n. b.narrow (a.narrow n);
 }
 
 pub changed-as : {R R₁ : ℕ → Type 0} {w w₁ : List ℕ} {c : ℕ} → RowsChanged R w w₁ c → ((x : ℕ) → R x → R₁ x) → RowsChanged R₁ w w₁ c
-changed-as a f = record { among = λ x t. f x (a.among x t); rest = a.rest; le = a.le; more = a.more }
+changed-as a f = record { among = λ x t. f x (a.among x t); rest = a.rest; le = a.le; more = a.more; narrow = a.narrow }
 
 -- ---- labels added to one word
 
@@ -61,6 +64,7 @@ module _ (w : List ℕ) (i v : ℕ) where
       rest = λ j f. get_or-set_other w i j _ 0 (λ e. never _ (one_bit (i / 2) (j / 2) h ∙ eq-eqb (j / 2) (i / 2) (ap (λ (y : ℕ). y / 2) e)) f);
       le = less.le;
       more = inr (go (dec_lt (total w) (total (or_at w i v))));
+      narrow = λ _ j. narrow j (ℕ_discrete j i);
     }
       where
         narrow : (j : ℕ) → Dec (j ≡ i) → get_or (or_at w i v) j 0 < 2 ^ 64

@@ -1,18 +1,19 @@
 // The rules of one row of I, by movers: each is a few word operations on two rows.
-// The table is 193 words: row a of I in words 2 a and 2 a + 1, row a of H in word 128 + a, S in word 192; movers are 192 words.
+// Row a of I is in words 2 a and 2 a + 1 of the table, row a of H in word 128 + a, S in word 192.
 #![tactic(auto)]
 
-ghost use Rattle.std.specs.Prelude.{◌≡◌, ◌<◌, length};
+ghost use Rattle.std.specs.Prelude.{◌<◌};
 ghost use Rattle.tables.specs.Grow.{Grown};
 ghost use Rattle.table_words.specs.BitSets.{Bits, WordHas};
 ghost use Rattle.table_movers.specs.Rules.{PairClosed, RowClosed};
 ghost use Rattle.table_rows.specs.Changes.{RowOfWord, RowsChanged};
 ghost use Rattle.table_rows.specs.Rows.{Reads, RowIn, RowOfPair};
 
+use table_words::{Kinds, Ones, Words};
+
 // Adds the labels to word i; the word's row, if it changed, as a set.
-fn or_into(w: &mut [u64], i: usize, labels: u64) -> u64
-    requires w_len { length w.old ≡ 193 }
-    requires i_bound { i < 128 }
+fn or_into(w: &mut Words, i: usize, labels: u64) -> u64
+    requires { i < 128 }
     ensures grown { Grown (WordHas 64 i labels) (WordHas 64 i labels) (Bits w.old) (Bits w.new) }
     ensures rows_changed { RowsChanged (RowOfWord i) w.old w.new result }
 {
@@ -26,8 +27,7 @@ fn or_into(w: &mut [u64], i: usize, labels: u64) -> u64
 }
 
 // Open: adds row b to row p; the rows that changed.
-fn or_row(w: &mut [u64], p: usize, b: usize) -> u64
-    requires w_len { length w.old ≡ 193 }
+fn or_row(w: &mut Words, p: usize, b: usize) -> u64
     requires p_bound { p < 64 }
     requires b_bound { b < 64 }
     ensures grown { Grown (RowIn p b) (RowIn p b) (Bits w.old) (Bits w.new) }
@@ -40,9 +40,7 @@ fn or_row(w: &mut [u64], p: usize, b: usize) -> u64
 }
 
 // The rules for b in row p, once; the rows that changed.
-fn close_pair(w: &mut [u64], movers: &[u64], p: usize, b: usize) -> u64
-    requires w_len { length w.old ≡ 193 }
-    requires movers_len { length movers.now ≡ 192 }
+fn close_pair(w: &mut Words, movers: &Kinds, p: usize, b: usize) -> u64
     requires p_bound { p < 64 }
     requires b_bound { b < 64 }
     ensures grown { Grown (PairClosed movers.now p b) (PairClosed movers.now p b) (Bits w.old) (Bits w.new) }
@@ -60,19 +58,14 @@ fn close_pair(w: &mut [u64], movers: &[u64], p: usize, b: usize) -> u64
 }
 
 // The rules of row p, once; the rows that changed.
-pub fn close_row(w: &mut [u64], movers: &[u64], p: usize) -> u64
-    requires w_len { length w.old ≡ 193 }
-    requires movers_len { length movers.now ≡ 192 }
-    requires p_bound { p < 64 }
+pub fn close_row(w: &mut Words, movers: &Kinds, p: usize) -> u64
+    requires { p < 64 }
     ensures grown { Grown (RowClosed movers.now p) (RowClosed movers.now p) (Bits w.old) (Bits w.new) }
     ensures rows_changed { RowsChanged (Reads w.new p) w.old w.new result }
 {
     let mut changed: u64 = 0;
-    let mut rest = w[2 * p];
-    while rest != 0 {
-        let b = u64::trailing_zeros(rest) as usize;
+    for b in Ones(w[2 * p]) {
         changed |= close_pair(w, movers, p, b);
-        rest = rest & (rest - 1);
     }
     changed
 }

@@ -27,7 +27,7 @@ use Rattle.table_partners.specs.Laws.{closed-rule, rules-closed}
 use Rattle.tables.specs.Grow.{Set}
 use Rattle.table_words.specs.BitSets.{Bits, and_in, and_l, and_r, below_64, or_some}
 use Rattle.table_words.specs.Layout.{bit-lo, suspect-bit}
-use Rattle.table_words.specs.Lowest.{Lowest}
+use Rattle.table_words.specs.Ones.{Taken, taken-kept}
 use Rattle.table_partners.specs.Rules.{AllRules, RulesClosed}
 use Rattle.table_movers.specs.Movers.{Movers}
 
@@ -185,12 +185,12 @@ abbrev pub Tested : List ℕ → List ℕ → ℕ → ℕ → Type 0
 Tested m w p rest = (x : ℕ) → x < 64 → test_bit (get_or w (2 * p) 0) x ≡ true → (test_bit rest x ≡ true → ⊥) → PairHeld m p x (Bits w)
 
 module _ (m w : List ℕ) (p rest : ℕ) (f : Tested m w p rest) where
-  pub tested-next : (b : ℕ) → Lowest rest b 64 → PairHeld m p b (Bits w) → Tested m w p (bit_and rest (rest - 1))
-  tested-next b o q x h t d = go (ℕ_discrete x b)
+  pub tested-next : {b next : ℕ} → Taken rest b next → PairHeld m p b (Bits w) → Tested m w p next
+  tested-next {b} o q x h t d = go (ℕ_discrete x b)
     where
       go : Dec (x ≡ b) → PairHeld m p x (Bits w)
       go (yes e) = subst (λ (y : ℕ). PairHeld m p y (Bits w)) (sym e) q
-      go (no n) = f x h t (λ v. d (and_in rest (rest - 1) x v (o.kept x n v)))
+      go (no n) = f x h t (λ v. d (taken-kept o x n v))
 
   pub tested-all : rest ≡ 0 → Decides true (RowHeld m (Bits w) p)
   unfolding RowHeld

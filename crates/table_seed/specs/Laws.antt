@@ -66,14 +66,6 @@ module _ (test : ℕ → Bool) (cell : ℕ → ℕ) where
     closed = λ x l d. ⊎_elim (λ e. absurd (true≢false (sym d ∙ ap test e ∙ c))) (λ m. g.closed x m d) (last_or x n l);
   }
 
--- a list whose first n numbers, all it has, are 0
-pub zeros : (t : List ℕ) (n : ℕ) → length t ≡ n → ((k : ℕ) → k < n → get_or t k 0 ≡ 0) → (i : ℕ) → get_or t i 0 ≡ 0
-zeros t n e f i = go (dec_lt i n)
-  where
-    go : Dec (i < n) → get_or t i 0 ≡ 0
-    go (yes l) = f i l
-    go (no d) = get_or-eq_default t 0 (omega arith)
-
 -- ---- a table whose names part, the 512 bytes from byte 1,024, was lent
 
 module _ (t h : List ℕ) (lt : length t ≡ 1544) (lh : length h ≡ 512) where

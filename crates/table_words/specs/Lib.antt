@@ -7,3 +7,4 @@ pub mod Sums
 pub mod Adds
 pub mod Transposes
 pub mod Layout
+pub mod Ones

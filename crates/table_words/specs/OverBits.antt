@@ -1,14 +1,12 @@
 -- A loop over the one bits of a word, the lowest first.
-use Rattle.std.specs.Prelude.{◌-◌, ◌<◌, ℕ, true, ◌≡◌}
-use Rattle.std.specs.Int.Bits.{bit_and}
+use Rattle.std.specs.Prelude.{◌<◌, ℕ, true, ◌≡◌}
 use Rattle.std.proofs.Common.{◌∙◌, ap, subst, sym}
 use Rattle.std.proofs.Math.Decide.{ℕ_discrete}
 use Rattle.model.proofs.Laws.Bit.{zero_bit}
 use Rattle.model.proofs.Laws.Booleans.{never}
 use Rattle.model.specs.Tables.{test_bit}
 use Rattle.tables.specs.Grow.{Grown, Set, chain, grown-none, recast}
-use Rattle.table_words.specs.BitSets.{and_in, and_l}
-use Rattle.table_words.specs.Lowest.{Lowest}
+use Rattle.table_words.specs.Ones.{Taken, taken-kept}
 
 -- ---- a loop over the bits of b, of which `rest` are left
 
@@ -22,16 +20,13 @@ module _ (P : ℕ → Set → Type 0) (b : ℕ) where
   pub taken_start : {s : Set} → Grown AtBits (AtTaken b) s s
   taken_start = grown-none (λ x h t d. absurd (d t))
 
-  pub taken_next : (rest k : ℕ) {s s₁ s₂ : Set} → Lowest rest k 64 → ((x : ℕ) → test_bit rest x ≡ true → test_bit b x ≡ true) → Grown AtBits (AtTaken rest) s s₁ →
-      Grown (P k) (P k) s₁ s₂ → Grown AtBits (AtTaken (bit_and rest (rest - 1))) s s₂
-  taken_next rest k {s} o i g p = chain g p (λ u j c. c k o.below (i k o.bit)) (λ _ R R₁ x h t d. go R R₁ x h t d (ℕ_discrete x k))
+  pub taken_next : {rest k next : ℕ} {s s₁ s₂ : Set} → Taken rest k next → ((x : ℕ) → test_bit rest x ≡ true → test_bit b x ≡ true) → Grown AtBits (AtTaken rest) s s₁ →
+      Grown (P k) (P k) s₁ s₂ → Grown AtBits (AtTaken next) s s₂
+  taken_next {rest} {k} {next} {s} o i g p = chain g p (λ u j c. c k o.lowest.below (i k o.lowest.bit)) (λ _ R R₁ x h t d. go R R₁ x h t d (ℕ_discrete x k))
     where
-      go : AtTaken rest s → P k s → (x : ℕ) → x < 64 → test_bit b x ≡ true → (test_bit (bit_and rest (rest - 1)) x ≡ true → ⊥) → Dec (x ≡ k) → P x s
+      go : AtTaken rest s → P k s → (x : ℕ) → x < 64 → test_bit b x ≡ true → (test_bit next x ≡ true → ⊥) → Dec (x ≡ k) → P x s
       go R R₁ x h t d (yes e) = subst (λ (y : ℕ). P y s) (sym e) R₁
-      go R R₁ x h t d (no n) = R x h t (λ m. d (and_in rest (rest - 1) x m (o.kept x n m)))
+      go R R₁ x h t d (no n) = R x h t (λ m. d (taken-kept o x n m))
 
   pub taken-end : (rest : ℕ) {s s₁ : Set} → rest ≡ 0 → Grown AtBits (AtTaken rest) s s₁ → Grown AtBits AtBits s s₁
   taken-end rest e g = recast g (λ u i c. c) (λ r x h t. r x h t (λ m. never _ m (ap (λ (y : ℕ). test_bit y x) e ∙ zero_bit x)))
-
-pub rest-sub : (b rest : ℕ) → ((x : ℕ) → test_bit rest x ≡ true → test_bit b x ≡ true) → (x : ℕ) → test_bit (bit_and rest (rest - 1)) x ≡ true → test_bit b x ≡ true
-rest-sub b rest i x t = i x (and_l rest (rest - 1) x t)

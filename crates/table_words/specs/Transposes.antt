@@ -1,12 +1,11 @@
 -- A value scattered over words, and words transposed: which bits a loop adds.
-use Rattle.std.specs.Prelude.{◌%◌, ◌*◌, ◌+◌, ◌-◌, ◌<◌, ◌^◌, ℕ, get_or, true, List, ◌⊎◌, ◌≡◌}
+use Rattle.std.specs.Prelude.{◌%◌, ◌*◌, ◌+◌, ◌<◌, ◌^◌, ℕ, get_or, true, List, ◌⊎◌, ◌≡◌}
 use Rattle.std.proofs.Common.{eq-eqb, eqb-true, true≢false, inl, inr, ⊎_elim, ◌∙◌, ap, ap₂, subst, sym, zero-add, arith}
-use Rattle.std.specs.Int.Bits.{bit_and}
 use Rattle.std.proofs.Math.Decide.{ℕ_discrete}
 use Rattle.model.proofs.Laws.Bit.{zero_bit}
 use Rattle.model.specs.Tables.{test_bit}
-use Rattle.table_words.specs.BitSets.{and_in, one_bit}
-use Rattle.table_words.specs.Lowest.{Lowest}
+use Rattle.table_words.specs.BitSets.{one_bit}
+use Rattle.table_words.specs.Ones.{Taken, taken-kept}
 use Rattle.table_words.specs.Adds.{Adds, OrAt, Bit, adds-as, adds-next, adds_none}
 
 -- ---- a value into word base + k for each bit k
@@ -26,14 +25,14 @@ module _ (base bits value : ℕ) where
   pub scatter-none : {p : List ℕ} → Adds (Scattered bits) (Scatter base bits value) p p
   scatter-none = adds_none (λ i x q. q.1 q.0.bit)
 
-  pub scatter-next : (rest k : ℕ) {p p₁ p₂ : List ℕ} → Lowest rest k 64 → ((x : ℕ) → test_bit rest x ≡ true → test_bit bits x ≡ true) →
-      Adds (Scattered rest) (Scatter base bits value) p p₁ → Adds (OrAt (base + k) value) (OrAt (base + k) value) p₁ p₂ → Adds (Scattered (bit_and rest (rest - 1))) (Scatter base bits value) p p₂
-  scatter-next rest k o sub a b = adds-next a b (λ i x q. go i x q.0 q.1 (ℕ_discrete q.0.k k))
-      (λ i x q. record { k = k; below = o.below; bit = sub k o.bit; word = q.0; given = q.1 })
+  pub scatter-next : {rest k next : ℕ} {p p₁ p₂ : List ℕ} → Taken rest k next → ((x : ℕ) → test_bit rest x ≡ true → test_bit bits x ≡ true) →
+      Adds (Scattered rest) (Scatter base bits value) p p₁ → Adds (OrAt (base + k) value) (OrAt (base + k) value) p₁ p₂ → Adds (Scattered next) (Scatter base bits value) p p₂
+  scatter-next {rest} {k} {next} o sub a b = adds-next a b (λ i x q. go i x q.0 q.1 (ℕ_discrete q.0.k k))
+      (λ i x q. record { k = k; below = o.lowest.below; bit = sub k o.lowest.bit; word = q.0; given = q.1 })
     where
-      go : (i x : ℕ) (s : Scatter base bits value i x) → (test_bit (bit_and rest (rest - 1)) s.k ≡ true → ⊥) → Dec (s.k ≡ k) → Scattered rest i x ⊎ OrAt (base + k) value i x
+      go : (i x : ℕ) (s : Scatter base bits value i x) → (test_bit next s.k ≡ true → ⊥) → Dec (s.k ≡ k) → Scattered rest i x ⊎ OrAt (base + k) value i x
       go i x s d (yes e) = inr (s.word ∙ ap (λ (y : ℕ). base + y) e, s.given)
-      go i x s d (no n) = inl (s, λ m. d (and_in rest (rest - 1) s.k m (o.kept s.k n m)))
+      go i x s d (no n) = inl (s, λ m. d (taken-kept o s.k n m))
 
   pub scatter-end : (rest : ℕ) {p p₁ : List ℕ} → rest ≡ 0 → Adds (Scattered rest) (Scatter base bits value) p p₁ → Adds (Scatter base bits value) (Scatter base bits value) p p₁
   scatter-end rest e a = adds-as a (λ i x s. (s, λ t. true≢false (sym t ∙ ap (λ (y : ℕ). test_bit y s.k) e ∙ zero_bit s.k))) (λ i x s. s)

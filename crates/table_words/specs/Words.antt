@@ -1,9 +1,11 @@
 -- Bytes as one number, the first lowest: its bits are theirs.
 use Rattle.std.specs.Prelude.{◌%◌, ◌*◌, ◌+◌, ◌-◌, ◌/◌, ◌<◌, ◌^◌, ◌≤◌, suc, zero, ℕ, eqb, drop, get_or, length, set, take, Bool, ◌||◌, false, List, [], ◌∷◌, ◌≡◌}
-use Rattle.std.proofs.Math.Arith.{digits_lt}
 use Rattle.std.proofs.lemmas.Nat.{or_shifted}
 use Rattle.std.proofs.Math.ListN.{get_or-eq_default}
-use Rattle.std.proofs.Common.{length-take, pow-add, pow_mono, pow_pos, drop-cons, get_or-set_other, get_or-set_same, get_or-take, ⊎_elim, ◌∙◌, ap₂, subst, div-add-mod', eq-or-lt_of_le, le_of_eq, le_of_suc-le-suc, le_refl, le_trans, lt_irrefl, mod-lt, mul_assoc, mul-div_cancel, mul-le-mul_right, not-suc-le-zero, pow-suc, suc-mul, zero-lt-suc, add-one}
+use Rattle.std.specs.Int.{from_le_bytes, to_le_bytes}
+use Rattle.std.specs.Simd.{first_chunks}
+use Rattle.std.proofs.lemmas.List.{drop_all, drop-drop}
+use Rattle.std.proofs.Common.{refl, w64, length-take, pow_pos, drop-cons, get_or-set_other, get_or-set_same, get_or-take, ⊎_elim, ◌∙◌, ap₂, subst, div-add-mod', eq-or-lt_of_le, le_of_eq, le_of_suc-le-suc, le_trans, lt_irrefl, mod-lt, mul_assoc, mul-div_cancel, not-suc-le-zero, pow-suc, zero-lt-suc, add-one}
 use Rattle.std.proofs.Math.Pow.{high}
 use Rattle.std.proofs.Math.Seq.{get_or-drop}
 use Rattle.std.proofs.Math.Path.{ap, fun_ext, sym}
@@ -59,13 +61,6 @@ value-bit (x ∷ xs) h j = go (value-bit xs (λ i. h (suc i))) (dec_lt j 8)
         ap (λ (y : ℕ). test_bit (value xs * 2 ^ 8 + x) y) e ∙ cat-high (value xs) x (j - 8) (h 0) ∙ ih (j - 8)
         ∙ sym (ap₂ (λ (a b : ℕ). test_bit (get_or (x ∷ xs) a 0) b) q r)
 
-value-lt : (xs : List ℕ) → Narrow 8 xs → value xs < 2 ^ (length xs * 8)
-unfolding value
-value-lt [] h = le_refl 1
-value-lt (x ∷ xs) h =
-    subst (λ (y : ℕ). value xs * 2 ^ 8 + x < y) (sym (ap (λ (y : ℕ). 2 ^ y) (suc-mul (length xs) 8) ∙ pow-add 2 (length xs * 8) 8))
-    (digits_lt (value-lt xs (λ i. h (suc i))) (h 0))
-
 -- ---- eight bytes of a table
 
 module _ (t : List ℕ) (narrow : Narrow 8 t) where
@@ -78,16 +73,6 @@ module _ (t : List ℕ) (narrow : Narrow 8 t) where
           subst (λ (x : ℕ). x < 2 ^ 8)
           (sym (get_or-eq_default (take n (drop at t)) 0 (le_trans (le_of_eq (length-take n (drop at t))) (le_trans (min-le_left n (length (drop at t))) (omega arith)))))
           (pow_pos 8)
-
-  part-lt : (n at : ℕ) → n ≤ 8 → value (take n (drop at t)) < 2 ^ (n * 8)
-  part-lt n at l =
-      le_trans (value-lt (take n (drop at t)) (part-narrow n at))
-      (pow_mono (mul-le-mul_right 8 (le_trans (le_of_eq (length-take n (drop at t))) (min-le_left n (length (drop at t))))))
-
-  pub word_small : (at k v : ℕ) → 0 < k → v ≡ value (take (8 - k) (drop (at + k) t)) → v < 2 ^ 56
-  word_small at k v p e =
-      let q : (8 - k) * 8 ≤ 56 = omega arith in
-      subst (λ (x : ℕ). x < 2 ^ 56) (sym e) (le_trans (part-lt (8 - k) (at + k) (omega arith)) (pow_mono q))
 
   word-bit : (at j : ℕ) → j < 64 → test_bit (value (take 8 (drop at t))) j ≡ bit_at 8 t (8 * at + j)
   unfolding bit_at
@@ -113,14 +98,35 @@ module _ (t : List ℕ) (narrow : Narrow 8 t) where
           ap (λ (x : ℕ). test_bit x (j % 64)) (get_or-eq_default w 0 (le_trans (le_of_eq e) p)) ∙ zero_bit (j % 64)
           ∙ sym (ap (λ (x : ℕ). test_bit x (j % 8)) (get_or-eq_default t 0 (le_trans (le_of_eq f) o)) ∙ zero_bit (j % 8))
 
-pub word-step : (t : List ℕ) (at k v : ℕ) → 0 < k → k ≤ 8 → at + 8 ≤ length t → v ≡ value (take (8 - k) (drop (at + k) t)) →
-    v * 256 + get_or t (at + (k - 1)) 0 ≡ value (take (8 - (k - 1)) (drop (at + (k - 1)) t))
+-- the number that `from_le_bytes` reads
+pub value-eight : (xs : List ℕ) → length xs ≡ 8 → from_le_bytes w64 xs ≡ value xs
 unfolding value
-word-step t at k v p l h e =
-    let q : 8 - (k - 1) ≡ suc (8 - k) = omega arith in
-    let f : suc (at + (k - 1)) ≡ at + k = omega arith in
-    ap (λ (x : ℕ). x * 256 + get_or t (at + (k - 1)) 0) (e ∙ ap (λ (n : ℕ). value (take (8 - k) (drop n t))) (sym f))
-    ∙ sym (ap₂ (λ (n : ℕ) (xs : List ℕ). value (take n xs)) q (drop-cons t (at + (k - 1)) 0 (omega arith)))
+value-eight xs e =
+    let end : value (drop 8 xs) ≡ 0 = ap value (drop_all 8 xs (le_of_eq e)) in
+    omega (arith, byte 0 (omega arith), byte 1 (omega arith), byte 2 (omega arith), byte 3 (omega arith), byte 4 (omega arith), byte 5 (omega arith), byte 6 (omega arith), byte 7 (omega arith), end)
+  where
+    byte : (k : ℕ) → k < length xs → value (drop k xs) ≡ value (drop (k + 1) xs) * 256 + get_or xs k 0
+    byte k l = ap value (drop-cons xs k 0 l) ∙ ap (λ (n : ℕ). value (drop n xs) * 256 + get_or xs k 0) (sym (add-one k))
+
+-- the chunks that `as_chunks` gives
+pub get_or-first_chunks : (n count : ℕ) (xs : List ℕ) (i : ℕ) → i < count → get_or (first_chunks n count xs) i [] ≡ take n (drop (n * i) xs)
+get_or-first_chunks n zero xs i l = absurd (not-suc-le-zero l)
+get_or-first_chunks n (suc count) xs zero l = let e : 0 ≡ n * 0 = omega arith in ap (λ (k : ℕ). take n (drop k xs)) e
+get_or-first_chunks n (suc count) xs (suc i) l =
+    let e : n + n * i ≡ n * suc i = omega arith in
+    get_or-first_chunks n count (drop n xs) i (le_of_suc-le-suc l) ∙ ap (take n) (drop-drop (n * i) n xs ∙ ap (λ (k : ℕ). drop k xs) e)
+
+-- the bytes that `to_le_bytes` writes
+pub get_or-to_le_bytes : (v k : ℕ) → k < 8 → get_or (to_le_bytes w64 v) k 0 ≡ v / 2 ^ (8 * k) % 2 ^ 8
+get_or-to_le_bytes v zero l = omega arith
+get_or-to_le_bytes v (suc zero) l = refl
+get_or-to_le_bytes v (suc (suc zero)) l = refl
+get_or-to_le_bytes v (suc (suc (suc zero))) l = refl
+get_or-to_le_bytes v (suc (suc (suc (suc zero)))) l = refl
+get_or-to_le_bytes v (suc (suc (suc (suc (suc zero))))) l = refl
+get_or-to_le_bytes v (suc (suc (suc (suc (suc (suc zero)))))) l = refl
+get_or-to_le_bytes v (suc (suc (suc (suc (suc (suc (suc zero))))))) l = refl
+get_or-to_le_bytes v (suc (suc (suc (suc (suc (suc (suc (suc k)))))))) l = absurd (omega arith)
 
 -- a loop that fills a list from the front
 pub fill-next : (f : ℕ → ℕ) (t : List ℕ) (i v : ℕ) → i < length t → ((k : ℕ) → k < i → get_or t k 0 ≡ f k) → v ≡ f i → (k : ℕ) → k < i + 1 → get_or (set t i v) k 0 ≡ f k
@@ -136,6 +142,14 @@ Stored w n t = (i : ℕ) → i < n → get_or t i 0 ≡ get_or w (i / 8) 0 / 2 ^
 pub stored-none : (w t : List ℕ) → Stored w 0 t
 unfolding Stored
 stored-none w t i l = absurd (not-suc-le-zero l)
+
+pub stored-narrow : (n : ℕ) (w t : List ℕ) → length t ≡ n → Stored w n t → Narrow 8 t
+unfolding Stored
+stored-narrow n w t e s i = go (dec_lt i n)
+  where
+    go : Dec (i < n) → get_or t i 0 < 2 ^ 8
+    go (yes l) = subst (λ (x : ℕ). x < 2 ^ 8) (sym (s i l)) (mod-lt (get_or w (i / 8) 0 / 2 ^ (8 * (i % 8))) (pow_pos 8))
+    go (no d) = subst (λ (x : ℕ). x < 2 ^ 8) (sym (get_or-eq_default t 0 (omega (arith, e)))) (pow_pos 8)
 
 -- byte k of word i as well
 pub stored_next : (w t : List ℕ) (i k v : ℕ) → 8 * i + k < length t → k < 8 → Stored w (8 * i + k) t → v ≡ get_or w i 0 / 2 ^ (8 * k) % 2 ^ 8 → Stored w (8 * i + (k + 1)) (set t (8 * i + k) v)

@@ -1,11 +1,16 @@
 // Bytes as words of 64 bits, and back; and the operations on words that the rules of a table are made of.
 #![tactic(auto)]
 
-ghost use Rattle.std.specs.Prelude.{◌≡◌, ◌+◌, ◌*◌, ◌<◌, ◌≤◌, length, take, drop};
+ghost use Rattle.std.specs.Prelude.{◌≡◌, ◌+◌, ◌*◌, ◌<◌, length};
+ghost use Rattle.model.proofs.Laws.Sets.{Narrow};
 ghost use Rattle.model.specs.Tables.{bit_at, bits, test_bit};
 ghost use Rattle.table_words.specs.Adds.{Adds};
 ghost use Rattle.table_words.specs.Transposes.{Scatter, Transposed};
-ghost use Rattle.table_words.specs.Words.{Stored, value};
+ghost use Rattle.table_words.specs.Words.{Stored};
+ghost use Rattle.std.specs.Iterator.{at_most};
+ghost use Rattle.table_words.specs.Ones.{TakesLowest};
+
+use tables::Table;
 
 // Bits and bytes of a word.
 pub const BITS: usize = 64;
@@ -21,64 +26,73 @@ pub const KIND_WORDS: usize = 192;
 // The word of S in a table.
 pub const SUSPECTS: usize = 192;
 
-// The eight bytes from `at` as a word.
-fn read_word(bytes: &[u8], at: usize) -> u64
-    requires { at + 8 ≤ length bytes.now }
-    ensures { result ≡ value (take 8 (drop at bytes.now)) }
-{
-    let mut v: u64 = 0;
-    let mut k: usize = BYTES;
-    while 0 < k {
-        k -= 1;
-        let b = bytes[at + k] as u64;
-        v = v * 256 + b;
-    }
-    v
-}
+// A table as words.
+pub type Words = [u64; TABLE_WORDS];
+
+// Partners or movers: for each kind and label a set of labels.
+pub type Kinds = [u64; KIND_WORDS];
+
+// For each label a set of labels.
+pub type Columns = [u64; BITS];
 
 // The bytes' bits as words.
-pub fn load(bytes: &[u8], words: &mut [u64])
-    requires { length bytes.now ≡ length words.old * 8 }
-    ensures { bit_at 64 words.new ≡ bits bytes.now }
+pub fn load(table: &Table, words: &mut Words)
+    ensures { bit_at 64 words.new ≡ bits table.now }
 {
-    let n = words.len();
-    let mut i: usize = 0;
-    while i < n {
-        let v = read_word(bytes, BYTES * i);
-        words[i] = v;
-        i += 1;
+    let (chunks, _) = table.as_chunks::<BYTES>();
+    for i in 0..TABLE_WORDS {
+        words[i] = u64::from_le_bytes(chunks[i]);
     }
 }
 
 // The bytes of word i, after those of the words before it. A word's bytes go together: one store, compiled.
-fn write_word(words: &[u64], i: usize, bytes: &mut [u8])
-    requires i_in_bounds { i < length words.now }
-    requires bytes_len { length bytes.old ≡ length words.now * 8 }
-    requires stored { Stored words.now (8 * i) bytes.old }
-    ensures { Stored words.now (8 * i + 8) bytes.new }
+fn write_word(words: &Words, i: usize, table: &mut [u8])
+    requires i_in_bounds { i < 193 }
+    requires table_len { length table.old ≡ 1544 }
+    requires stored { Stored words.now (8 * i) table.old }
+    ensures { Stored words.now (8 * i + 8) table.new }
 {
-    let v = words[i];
-    let mut k: usize = 0;
-    while k < BYTES {
-        bytes[BYTES * i + k] = ((v >> (8 * k)) % 256) as u8;
-        k += 1;
+    let bytes = words[i].to_le_bytes();
+    for k in 0..BYTES {
+        table[BYTES * i + k] = bytes[k];
     }
 }
 
-// The words' bits as bytes.
-pub fn store(words: &[u64], bytes: &mut [u8])
-    requires { length bytes.old ≡ length words.now * 8 }
-    ensures { bits bytes.new ≡ bit_at 64 words.now }
+// The words' bits as bytes. (A lent table that is written stays a slice: what is written through an array that std's try_from
+// makes of it is not known to its lender.)
+pub fn store(words: &Words, table: &mut [u8])
+    requires { length table.old ≡ 1544 }
+    ensures same_bits { bits table.new ≡ bit_at 64 words.now }
+    ensures narrow { Narrow 8 table.new }
 {
-    let n = words.len();
-    let mut i: usize = 0;
-    while i < n {
-        write_word(words, i, bytes);
-        i += 1;
+    for i in 0..TABLE_WORDS {
+        write_word(words, i, table);
+    }
+}
+
+// The numbers of a word's one bits, the lowest first.
+#[derive(Drop)]
+pub struct Ones(pub u64);
+
+impl Iterator for Ones {
+    type Item = usize;
+
+    ghost next_gives = { TakesLowest };
+
+    ghost remaining = { λ s. at_most s.0 };
+
+    fn next(&mut self) -> Option<usize> {
+        if self.0 == 0 {
+            return None;
+        }
+        let k = self.0.trailing_zeros() as usize;
+        self.0 &= self.0 - 1;
+        Some(k)
     }
 }
 
 // Whether bit k of x is one.
+#[tactic(auto, unfolding(model::specs::Tables::test_bit))]
 pub fn bit_of(x: u64, k: usize) -> bool
     requires { k < 64 }
     ensures { result ≡ test_bit x k }
@@ -91,24 +105,17 @@ pub fn scatter(base: usize, bits: u64, value: u64, words: &mut [u64])
     requires { base + 63 < length words.old }
     ensures { Adds (Scatter base bits value) (Scatter base bits value) words.old words.new }
 {
-    let mut rest = bits;
-    while rest != 0 {
-        let k = u64::trailing_zeros(rest) as usize;
-        let next = rest & (rest - 1);
+    for k in Ones(bits) {
         words[base + k] |= value;
-        rest = next;
     }
 }
 
 // Transposes 64 words, `step` apart: bit t of word first + step * k goes to bit k of word t.
-pub fn transpose(words: &[u64], first: usize, step: usize, columns: &mut [u64])
-    requires step_in_bounds { first + step * 63 < length words.now }
-    requires columns_len { length columns.old ≡ 64 }
+pub fn transpose(words: &Words, first: usize, step: usize, columns: &mut Columns)
+    requires { first + step * 63 < 193 }
     ensures { Adds (Transposed words.now first step 64) (Transposed words.now first step 64) columns.old columns.new }
 {
-    let mut k: usize = 0;
-    while k < BITS {
+    for k in 0..BITS {
         scatter(0, words[first + step * k], 1u64 << k, columns);
-        k += 1;
     }
 }

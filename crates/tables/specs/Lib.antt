@@ -1,3 +1,4 @@
 -- General laws on tests by loops and on sets that grow.
 pub mod Loops
 pub mod Grow
+pub mod Gates

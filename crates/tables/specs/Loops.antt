@@ -4,6 +4,8 @@ use Rattle.std.proofs.Common.{below_more, true≢false, ◌∙◌, ap₂, arith}
 use borrow.Author.Tests.{eq-eqb, le-leb, lt-leb, ne_eqb}
 use Rattle.std.proofs.lemmas.Nat.{and_le_l, and_le_r}
 use Rattle.std.specs.Int.Bits.{bit_or, bit_xor, or_add_and, xor_add_and, xor_self}
+use Rattle.std.specs.Bool.{MatchBool}
+use Rattle.std.specs.List.{AllWithin, HoldsAt}
 use Rattle.std.specs.Prelude.{eqb, get_or, length, Bool, ◌&&◌, not, List, ◌≡◌}
 use Rattle.std.proofs.Math.Dec.{leb}
 use Rattle.std.proofs.Math.Bool.{false, true}
@@ -111,6 +113,12 @@ module _ (policy : List ℕ) where
   pub policy-good : length policy ≡ 64 → get_or policy 0 0 ≡ 0 → ((k : ℕ) → k < 64 → get_or policy k 0 ≤ 2) → true ≡ policy_right policy
   unfolding policy_right
   policy-good e z h = sym (and-make (eq-eqb _ _ e) (and-make (sym (all_pass 64 (λ k. true) (λ k. leb (get_or policy k 0) 2) (λ k l t. le-leb _ _ (h k l)))) (eq-eqb _ _ z)))
+
+-- what `all` answers of a policy's classes
+pub policy-classes : (policy : List ℕ) (r : Bool) → length policy ≡ 64 → get_or policy 0 0 ≡ 0 →
+    MatchBool r (AllWithin (λ x. x ≤ 2) policy 0 (length policy)) ((k : ℕ) × (k < length policy) × HoldsAt (λ x. 2 < x) policy k) → r ≡ policy_right policy
+policy-classes policy true e z h = policy-good policy e z (λ k l. h k 0 (omega arith) (omega arith))
+policy-classes policy false e z h = policy-over policy h.0 (let l = h.1 in omega arith) (h.2 0)
 
 -- ---- a table's clear bits
 

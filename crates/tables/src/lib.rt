@@ -1,16 +1,28 @@
 // Reading a policy and a table: refusals 7 and 8, single bits, rows.
-#![tactic(auto)]
+#![tactic(auto, unfolding(model::specs::Numbers::check_as, model::specs::Numbers::number_of, model::specs::Numbers::unplaced, model::specs::Refusals::need))]
 
-ghost use Rattle.std.specs.Prelude.{◌≡◌, true, not, ◌+◌, ◌*◌, ◌/◌, ◌<◌, length};
+ghost use Rattle.std.specs.Prelude.{◌≡◌, true, not, ◌+◌, ◌*◌, ◌/◌, ◌<◌, length, IfOk};
 ghost use Rattle.model.specs.Finite.{every};
-ghost use Rattle.model.specs.Numbers.{checked_as};
-ghost use Rattle.model.specs.Refusals.{◌▸◌, need};
+ghost use Rattle.model.specs.Numbers.{check_as};
+ghost use Rattle.model.specs.Refusals.{need};
 ghost use Rattle.model.specs.Tables.{bits, policy_right, table_right, table_sized};
 
-use model::Checked;
+use model::{Cause, Refusal};
 
 // How many bytes a table has.
 pub const TABLE_BYTES: usize = 1544;
+
+// How many bytes a policy has: a class for each label.
+pub const POLICY_BYTES: usize = 64;
+
+// The classes of a policy that are not low.
+pub const HIGH: u8 = 1;
+
+pub const BOUNDARY: u8 = 2;
+
+pub type Table = [u8; TABLE_BYTES];
+
+pub type Policy = [u8; POLICY_BYTES];
 
 // The first bit of H.
 pub const NAMES: usize = 8192;
@@ -19,6 +31,7 @@ pub const NAMES: usize = 8192;
 pub const SUSPECTS: usize = 12288;
 
 // Bit j of a table.
+#[tactic(auto, unfolding(model::specs::Tables::bit_at, model::specs::Tables::test_bit))]
 pub fn bit(table: &[u8], j: usize) -> bool
     requires { j / 8 < length table.now }
     ensures { result ≡ bits table.now j }
@@ -30,44 +43,32 @@ pub fn bit(table: &[u8], j: usize) -> bool
 pub fn policy_right(policy: &[u8]) -> bool
     ensures { result ≡ policy_right policy.now }
 {
-    if policy.len() != 64 {
+    let Some(policy) = policy.as_array::<POLICY_BYTES>() else {
         return false;
-    }
-    if policy[0] != 0 {
-        return false;
-    }
-    let mut k: usize = 0;
-    while k < 64 {
-        if 2 < policy[k] {
-            return false;
-        }
-        k += 1;
-    }
-    true
+    };
+    policy[0] == 0 && policy.iter().all(|&class| class <= BOUNDARY)
 }
 
-// Refusal 7, looked for only where the checks before it pass.
-pub fn policy_gate(so_far: Checked, policy: &[u8]) -> Checked
-    ensures { checked_as result ≡ (checked_as so_far ▸ need (policy_right policy.now) 7 0) }
+// Refusal 7; the policy that passes.
+pub fn policy_gate(policy: &[u8]) -> Result<&Policy, Refusal>
+    ensures checks { check_as result ≡ need (policy_right policy.now) 7 0 }
+    ensures same { IfOk result (λ passed. passed.now ≡ policy.now) }
 {
-    if let Checked::Refuse(_) = so_far {
-        return so_far;
+    match policy.as_array() {
+        Some(sized) if policy_right(policy) => Ok(sized),
+        _ => Err(Cause::Policy.into()),
     }
-    gates::need(so_far, policy_right(policy), 7)
 }
 
 // Whether the 64 bits from `first` on, `step` apart, are clear.
-fn clear_bits(table: &[u8], first: usize, step: usize) -> bool
-    requires table_len { length table.now ≡ 1544 }
-    requires step_bound { first + step * 63 < 12352 }
+fn clear_bits(table: &Table, first: usize, step: usize) -> bool
+    requires { first + step * 63 < 12352 }
     ensures { result ≡ every 64 (λ k. true) (λ k. not (bits table.now (first + step * k))) }
 {
-    let mut k: usize = 0;
-    while k < 64 {
+    for k in 0..64 {
         if bit(table, first + step * k) {
             return false;
         }
-        k += 1;
     }
     true
 }
@@ -76,31 +77,28 @@ fn clear_bits(table: &[u8], first: usize, step: usize) -> bool
 pub fn table_right(table: &[u8]) -> bool
     ensures { result ≡ table_right table.now }
 {
-    let size = table.len();
-    if size != TABLE_BYTES {
+    let Some(table) = table.as_array::<TABLE_BYTES>() else {
         return false;
-    }
-    if !clear_bits(table, 0, 128) {
-        return false;
-    }
-    clear_bits(table, NAMES, 1)
+    };
+    clear_bits(table, 0, 128) && clear_bits(table, NAMES, 1)
 }
 
-// Refusal 8, looked for only where the checks before it pass.
-pub fn table_gate(so_far: Checked, table: &[u8]) -> Checked
-    ensures { checked_as result ≡ (checked_as so_far ▸ need (table_right table.now) 8 0) }
+// Refusal 8; the table that passes.
+pub fn table_gate(table: &[u8]) -> Result<&Table, Refusal>
+    ensures checks { check_as result ≡ need (table_right table.now) 8 0 }
+    ensures same { IfOk result (λ passed. passed.now ≡ table.now) }
 {
-    if let Checked::Refuse(_) = so_far {
-        return so_far;
+    match table.as_array() {
+        Some(sized) if table_right(table) => Ok(sized),
+        _ => Err(Cause::Table.into()),
     }
-    gates::need(so_far, table_right(table), 8)
 }
 
 // Refusal 8 for a table to be made: its length alone.
-pub fn sized_gate(so_far: Checked, table: &[u8]) -> Checked
-    ensures { checked_as result ≡ (checked_as so_far ▸ need (table_sized table.now) 8 0) }
+pub fn sized_gate(table: &[u8]) -> Result<(), Refusal>
+    ensures { check_as result ≡ need (table_sized table.now) 8 0 }
 {
-    gates::need(so_far, table.len() == TABLE_BYTES, 8)
+    gates::need(table.len() == TABLE_BYTES, Cause::Table, 0)
 }
 
 // Whether each bit of the row x is one in the row y: the bits that x has more, gathered.
@@ -110,10 +108,8 @@ pub fn row_included(x: &[u8], y: &[u8]) -> bool
     ensures { result ≡ every 128 (λ k. bits x.now k) (λ k. bits y.now k) }
 {
     let mut extra: u8 = 0;
-    let mut i: usize = 0;
-    while i < 16 {
+    for i in 0..16 {
         extra |= (x[i] | y[i]) ^ y[i];
-        i += 1;
     }
     extra == 0
 }

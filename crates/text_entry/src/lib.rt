@@ -4,7 +4,7 @@
 ghost use Rattle.std.specs.Prelude.{◌+◌, ◌≤◌, length, replicate};
 ghost use Rattle.model.specs.Records.{records};
 ghost use Rattle.text_put.specs.Puts.{Put};
-ghost use Rattle.text_form.specs.Lines.{entry, kind_word};
+ghost use Rattle.text_form.specs.Lines.{entry};
 ghost use Rattle.text_form.specs.Parts.{Whole, fields, front, visit_line};
 ghost use Rattle.text_form.specs.Writing.{mark};
 
@@ -15,32 +15,9 @@ fn put_spaces(text: &mut [u8], at: usize, n: usize) -> usize
     requires { at + n ≤ length text.old }
     ensures { Put text.old at (replicate n 32) text.new result }
 {
-    let mut i: usize = 0;
-    while i < n {
-        text[at + i] = 32;
-        i += 1;
-    }
-    at + n
-}
-
-// Puts a kind's word.
-fn put_kind(text: &mut [u8], at: usize, kind: u8) -> usize
-    requires { at + length (kind_word kind) ≤ length text.old }
-    ensures { Put text.old at (kind_word kind) text.new result }
-{
-    if kind == 1 {
-        return text_put::put(text, at, b"ambient ");
-    }
-    if kind == 2 {
-        return text_put::put(text, at, b"in ");
-    }
-    if kind == 3 {
-        return text_put::put(text, at, b"out ");
-    }
-    if kind == 4 {
-        return text_put::put(text, at, b"open ");
-    }
-    at
+    let end = at + n;
+    text[at..end].fill(b' ');
+    end
 }
 
 // Puts a record's number and a space before its line of a listing.
@@ -50,7 +27,7 @@ fn put_front(text: &mut [u8], at: usize, listed: bool, number: u16) -> usize
 {
     if listed {
         let end = text_put::put_number(text, at, number);
-        return text_put::put_byte(text, end, 32);
+        return text_put::put_byte(text, end, b' ');
     }
     at
 }
@@ -60,9 +37,9 @@ fn put_fields(text: &mut [u8], at: usize, line: Line) -> usize
     requires { at + length (fields line) ≤ length text.old }
     ensures { Put text.old at (fields line) text.new result }
 {
-    let label = put_kind(text, at, line.kind);
+    let label = text_put::put(text, at, text_form::kind_word(line.kind));
     let space = text_put::put_number(text, label, line.label as u16);
-    let name = text_put::put_byte(text, space, 32);
+    let name = text_put::put_byte(text, space, b' ');
     text_put::put_number(text, name, line.name as u16)
 }
 
@@ -86,7 +63,8 @@ fn put_entry(
     hidden: bool,
     line: Line,
 ) -> usize
-    requires { (line.depth ≤ 1024) × (at + length (entry (front listed number) (mark hidden) line) ≤ length text.old) }
+    requires shallow { line.depth ≤ 1024 }
+    requires fits { at + length (entry (front listed number) (mark hidden) line) ≤ length text.old }
     ensures { Put text.old at (entry (front listed number) (mark hidden) line) text.new result }
 {
     let depth = line.depth;
@@ -94,7 +72,7 @@ fn put_entry(
     let word = put_front(text, first, listed, number);
     let back = put_fields(text, word, line);
     let end = put_mark(text, back, hidden);
-    text_put::put_byte(text, end, 10)
+    text_put::put_byte(text, end, b'\n')
 }
 
 // Puts the line of a record that is visited. In a listing it is marked where the sheet hides it.
@@ -106,8 +84,11 @@ pub fn put_visit(
     listed: bool,
     v: Visit,
 ) -> usize
-    requires { (Whole it.now) × (Whole sheet.now) × (v.depth ≤ 1024)
-        × (at + length (visit_line listed (records it.now) (records sheet.now) v) ≤ length text.old) }
+    requires whole { Whole it.now }
+    requires sheet { Whole sheet.now }
+    requires shallow { v.depth ≤ 1024 }
+    requires fits { at + length (visit_line listed (records it.now) (records sheet.now) v)
+        ≤ length text.old }
     ensures { Put text.old at (visit_line listed (records it.now) (records sheet.now) v)
         text.new result }
 {

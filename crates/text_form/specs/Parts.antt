@@ -6,9 +6,8 @@ use Rattle.model.specs.Records.{at, records}
 use Rattle.model.specs.declared.Rec.{Rec}
 use Rattle.text_form.specs.Lines.{entry, kind_word}
 use Rattle.text_form.specs.Reading.{Scan, placed}
-use Rattle.text_form.specs.Writing.{fits, line_at, lines_of, mark, over_if, walk}
+use Rattle.text_form.specs.Writing.{TextWritten, fits, line_at, lines_of, mark, over_if, walk}
 use Rattle.text_form.specs.declared.Line.{Line}
-use Rattle.text_form.specs.declared.TextWritten.{TextWritten}
 use Rattle.text_form.specs.declared.Visit.{Visit}
 
 -- there is room for record k + 1, and for one more entry above

@@ -1,9 +1,10 @@
 -- Writing the text form: the records that aren't gone, depth first, the children of one parent by their numbers.
 use Rattle.std.specs.Prelude.{◌-◌, suc, zero, ℕ, eqb, leb, length, Bool, ◌&&◌, false, true, List, [], ◌++◌, ◌∷◌, map}
-use Rattle.std.proofs.Math.Option.{Option, none, some}
+use Rattle.std.specs.Prelude.{Option, None, Some, Result, Ok, Err}
 use Rattle.model.specs.Climbing.{hidden}
 use Rattle.model.specs.Finite.{lowest, unequal}
 use Rattle.model.specs.Listing.{field}
+use Rattle.model.specs.Numbers.{number_of}
 use Rattle.model.specs.Records.{at, parent_of, records}
 use Rattle.model.specs.Refusals.{Check, and_then, content, need, pass, refuse}
 use Rattle.model.specs.Tables.{suspects, table_right}
@@ -12,9 +13,9 @@ use Rattle.model.specs.declared.Rec.{Rec}
 use Rattle.text_put.specs.Puts.{over}
 use Rattle.text_form.specs.Lines.{entry, hidden_word, render}
 use Rattle.text_form.specs.declared.Line.{Line}
-use Rattle.text_form.specs.declared.TextWritten.{TextWritten}
-use Rattle.text_form.specs.declared.TextWritten.TheVariants.{Length, NoRoom, Refused}
 use Rattle.text_form.specs.declared.Visit.{Visit}
+use Rattle.text_form.specs.declared.WriteError.{WriteError}
+use Rattle.text_form.specs.declared.WriteError.TheVariants as error
 
 -- record j is not gone and has parent p
 unfoldable pub is_child : List Rec → ℕ → ℕ → Bool
@@ -22,12 +23,16 @@ is_child its p j = unequal (at its j).kind 0 && eqb (parent_of its j) p
 
 -- a number, 0 where there is none
 unfoldable pub or_zero : Option ℕ → ℕ
-or_zero none = 0
-or_zero (some j) = j
+or_zero None = 0
+or_zero (Some j) = j
 
--- the lowest child of p with a number over after, 0 where there is none
+-- the lowest child of p with a number over after
+abbrev pub child_over : List Rec → ℕ → ℕ → Option ℕ
+child_over its p after = lowest (is_child its p) (suc after) (length its - after)
+
+-- the same, 0 where there is none
 unfoldable pub child_after : List Rec → ℕ → ℕ → ℕ
-child_after its p after = or_zero (lowest (is_child its p) (suc after) (length its - after))
+child_after its p after = or_zero (child_over its p after)
 
 -- the child j at a depth, and otherwise what is found further up
 unfoldable pub child_or : ℕ → ℕ → Visit → Visit
@@ -39,6 +44,10 @@ child_or (suc j) d up = record { number = suc j; depth = d }
 unfoldable pub next_from : List Rec → ℕ → ℕ → ℕ → Visit
 next_from its zero p after = record { number = child_after its p after; depth = 0 }
 next_from its (suc d) p after = child_or (child_after its p after) (suc d) (next_from its d (parent_of its p) p)
+
+-- the visit of a number, none where it is 0
+unfoldable pub visit_of : Visit → Option Visit
+visit_of v = elim v.number [ zero ↦ None | suc j ↦ Some v ]
 
 -- at most n visits, from the children of p on, which stand at depth d
 unfoldable pub walk_from : List Rec → ℕ → ℕ → ℕ → List Visit
@@ -77,6 +86,18 @@ lines_of line (v ∷ vs) = line v ++ lines_of line vs
 unfoldable pub list_of : List Rec → (ℕ → Bool) → List ℕ
 list_of its S = lines_of (list_line its (hidden its S)) (walk its)
 
+-- the answer of a writer: the text's length, or the room that it needs, or "number, record" of the itinerary's refusal
+pub data TextWritten : Type 0 where
+  Length : ℕ → TextWritten
+  NoRoom : ℕ → TextWritten
+  Refused : (n r : ℕ) → TextWritten
+
+-- the answer of the code, a Result
+unfoldable pub written_as : Result ℕ WriteError → TextWritten
+written_as (Ok n) = Length n
+written_as (Err (error.NoRoom n)) = NoRoom n
+written_as (Err (error.Refused r)) = Refused (number_of r.cause) r.«record»
+
 -- by whether w has room in t: its length, or the room that it needs
 unfoldable pub fits : Bool → List ℕ → TextWritten
 fits true w = Length (length w)
@@ -90,7 +111,7 @@ over_if false w t = t
 -- the answer of a writer of w into t, after its checks
 unfoldable pub told : Check → List ℕ → List ℕ → TextWritten
 told pass w t = fits (leb (length w) (length t)) w
-told (refuse n r) w t = Refused (record { number = n; «record» = r })
+told (refuse n r) w t = Refused n r
 
 -- the lent text after a writer of w; it is as it was where the checks refuse or there is no room
 unfoldable pub told_after : Check → List ℕ → List ℕ → List ℕ

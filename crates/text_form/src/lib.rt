@@ -2,7 +2,12 @@
 // the crates text_read and text_write and those that these stand on.)
 #![tactic(auto)]
 
+ghost use Rattle.std.specs.Prelude.{◌≡◌};
+ghost use Rattle.text_form.specs.Lines.{kind_word};
+ghost use Rattle.text_form.specs.declared.WriteError.TheVariants.{Refused};
+
 use model::Refusal;
+use std::fmt;
 
 // A line of the text form: how far it is indented, and the record's kind, label and name.
 #[derive(Clone, Copy)]
@@ -13,38 +18,131 @@ pub struct Line {
     pub name: u8,
 }
 
-// A decimal number and how many bytes it takes, 0 where none stands.
+// The word of a kind, with the space after it.
+#[tactic(auto, unfolding(crate::specs::Lines::kind_word, crate::specs::Lines::ambient_word, crate::specs::Lines::in_word, crate::specs::Lines::out_word, crate::specs::Lines::open_word))]
+pub fn kind_word(kind: u8) -> &'static [u8]
+    ensures { result.now ≡ kind_word kind }
+{
+    match kind {
+        1 => b"ambient ",
+        2 => b"in ",
+        3 => b"out ",
+        4 => b"open ",
+        _ => b"",
+    }
+}
+
+// A decimal number and how many bytes it takes.
 #[derive(Clone, Copy)]
 pub struct Decimal {
     pub value: u16,
     pub width: usize,
 }
 
-// What reading a line finds: the line and how many bytes are left after it, or the number of its fault.
+// A line that was read, and how many bytes are left after it.
 #[derive(Clone, Copy)]
-pub enum LineRead {
-    Good(Line, usize),
-    Bad(u8),
+pub struct LineRead {
+    pub line: Line,
+    pub left: usize,
 }
 
-// The answer of the reader: how many records it wrote, or the lowest line at fault and the cause's number.
-#[derive(Clone, Copy)]
-pub enum TextRead {
-    Records(u16),
-    Fault { line: u16, cause: u8 },
+// The cause of a fault. The first ten are in the order in which a line is looked at.
+#[derive(Clone, Copy, PartialEq, Eq)]
+pub enum Cause {
+    // More records than 1,024 or than the itinerary's bytes hold.
+    TooMany,
+    // The indentation is no multiple of two spaces.
+    OddIndent,
+    // Indented by more than one step below the line before.
+    TooDeep,
+    // The first word is none of ambient, in, out, open with a space after it.
+    UnknownKind,
+    // No number stands where the label should.
+    NoLabel,
+    // The label is wrong for its kind: 1 to 63 on an ambient, 64 to 127 on a capability.
+    WrongLabel,
+    // No space and number stand after the label.
+    NoName,
+    // The name is over 63.
+    WrongName,
+    // Something stands after the name.
+    AfterName,
+    // The text ends after the name, with no end of the line.
+    NoEnd,
+    // The first line is indented.
+    FirstIndented,
+    // A carriage return stands there.
+    CarriageReturn,
+    // A tab stands there.
+    Tab,
+    // A byte order mark stands there.
+    ByteOrderMark,
+    // A number has a leading zero.
+    LeadingZero,
+    // A number has more than three digits.
+    TooManyDigits,
+    // The text is longer than any text of 1,024 records.
+    TooLong,
 }
 
-// A record met on a walk, and the depth it stands at; number 0 where there is none.
+impl fmt::Display for Cause {
+    fn fmt<W: fmt::Write>(&self, f: &mut fmt::Formatter<W>) -> fmt::Result {
+        f.write_str(match self {
+            Cause::TooMany => "more than 1024 records",
+            Cause::OddIndent => "indented by an odd number of spaces",
+            Cause::TooDeep => "indented by more than two spaces below the line before",
+            Cause::UnknownKind => "no word ambient, in, out or open with a space after it",
+            Cause::NoLabel => "no number for a label",
+            Cause::WrongLabel =>
+                "label wrong for its kind: 1 to 63 on an ambient, 64 to 127 on in, out and open",
+            Cause::NoName => "no space and number for a name after the label",
+            Cause::WrongName => "name over 63",
+            Cause::AfterName => "something after the name",
+            Cause::NoEnd => "no end of line after the name",
+            Cause::FirstIndented => "the first line is indented",
+            Cause::CarriageReturn =>
+                "a carriage return (byte 13): a line ends with a line feed alone",
+            Cause::Tab => "a tab (byte 9): only spaces indent a line and part its fields",
+            Cause::ByteOrderMark => "a byte order mark (bytes 239 187 191)",
+            Cause::LeadingZero => "a number with a leading zero",
+            Cause::TooManyDigits => "a number with more than three digits",
+            Cause::TooLong => "the text is longer than any text of 1024 records",
+        })
+    }
+}
+
+// The lowest line at fault, counted from 1, and the cause.
+#[derive(Clone, Copy, PartialEq, Eq)]
+pub struct Fault {
+    pub line: u16,
+    pub cause: Cause,
+}
+
+impl fmt::Display for Fault {
+    fn fmt<W: fmt::Write>(&self, f: &mut fmt::Formatter<W>) -> fmt::Result {
+        let Fault { line, cause } = *self;
+        write!(f, "line {line}: {cause}")
+    }
+}
+
+// A record met on a walk, and the depth it stands at.
 #[derive(Clone, Copy)]
 pub struct Visit {
     pub number: u16,
     pub depth: usize,
 }
 
-// The answer of the writers: the text's length, or how much room it needs, or the itinerary's refusal.
-#[derive(Clone, Copy)]
-pub enum TextWritten {
-    Length(usize),
+// Why a text isn't written: there is no room for it, but for so many bytes, or the itinerary is refused.
+#[derive(Clone, Copy, PartialEq, Eq)]
+pub enum WriteError {
     NoRoom(usize),
     Refused(Refusal),
+}
+
+impl From<Refusal> for WriteError {
+    ghost from_gives = { λ r e. e ≡ Refused r };
+
+    fn from(r: Refusal) -> WriteError {
+        WriteError::Refused(r)
+    }
 }

@@ -1,27 +1,21 @@
-// What the bytes of a line start with: spaces, visible bytes, a word, a number; and the cause of a fault there.
+// What the bytes of a line start with: spaces, visible bytes, a number; and the cause of a fault there.
 #![tactic(auto)]
 
 ghost use Rattle.std.specs.Prelude.{◌≡◌};
 ghost use Rattle.model.specs.Records.{byte};
-ghost use Rattle.text_form.specs.Reading.{cause_at, digit, digits_cause, number_cause, numeral, numeral_of, shown, spaces, starts, visible};
+ghost use Rattle.text_form.specs.Reading.{cause_at, digit, digits_cause, number_read, numeral, numeral_of, shown, spaces, visible};
 
-use text_form::Decimal;
+use text_form::{Cause, Decimal};
 
 // How many spaces the bytes start with.
 pub fn spaces(s: &[u8]) -> usize
     ensures { result ≡ spaces s.now }
 {
-    let mut i: usize = 0;
-    while i < s.len() {
-        if s[i] != 32 {
-            return i;
-        }
-        i += 1;
-    }
-    i
+    s.iter().position(|&c| c != b' ').unwrap_or(s.len())
 }
 
 // Whether a byte shows as a character.
+#[tactic(auto, unfolding(text_form::specs::Reading::visible))]
 fn visible(c: u8) -> bool
     ensures { result ≡ visible c }
 {
@@ -32,58 +26,30 @@ fn visible(c: u8) -> bool
 pub fn shown(s: &[u8]) -> usize
     ensures { result ≡ shown s.now }
 {
-    let mut i: usize = 0;
-    while i < s.len() {
-        if !visible(s[i]) {
-            return i;
-        }
-        i += 1;
-    }
-    i
-}
-
-// Whether the bytes start with a word.
-pub fn starts(word: &[u8], s: &[u8]) -> bool
-    ensures { result ≡ starts word.now s.now }
-{
-    let mut i: usize = 0;
-    while i < word.len() {
-        if s.len() <= i {
-            return false;
-        }
-        if s[i] != word[i] {
-            return false;
-        }
-        i += 1;
-    }
-    true
+    s.iter().position(|&c| !visible(c)).unwrap_or(s.len())
 }
 
 // Byte j, 0 past the end.
 pub fn byte_at(s: &[u8], j: usize) -> u8
     ensures { result ≡ byte s.now j }
 {
-    if j < s.len() { s[j] } else { 0 }
+    s.get(j).copied().unwrap_or(0)
 }
 
 // The cause of a fault where s stands: invisible bytes that s starts with, and otherwise the one given.
-pub fn cause_at(cause: u8, s: &[u8]) -> u8
-    ensures { result ≡ cause_at cause s.now }
+pub fn cause_at(given: Cause, s: &[u8]) -> Cause
+    ensures { result ≡ cause_at given s.now }
 {
-    let c = byte_at(s, 0);
-    if c == 13 {
-        return 12;
+    match byte_at(s, 0) {
+        b'\r' => Cause::CarriageReturn,
+        b'\t' => Cause::Tab,
+        _ if s.starts_with(b"\xef\xbb\xbf") => Cause::ByteOrderMark,
+        _ => given,
     }
-    if c == 9 {
-        return 13;
-    }
-    if starts(b"\xef\xbb\xbf", s) {
-        return 14;
-    }
-    cause
 }
 
 // Whether a byte is one of 0 to 9.
+#[tactic(auto, unfolding(text_form::specs::Reading::digit))]
 fn digit(c: u8) -> bool
     ensures { result ≡ digit c }
 {
@@ -91,57 +57,61 @@ fn digit(c: u8) -> bool
 }
 
 // The number whose first three bytes are these.
-fn numeral_of(a: u8, b: u8, c: u8) -> Decimal
+fn numeral_of(a: u8, b: u8, c: u8) -> Option<Decimal>
     ensures { result ≡ numeral_of a b c }
 {
     if !digit(a) {
-        return Decimal { value: 0, width: 0 };
+        return None;
     }
-    if a == 48 {
-        return Decimal { value: 0, width: 1 };
+    if a == b'0' {
+        return Some(Decimal { value: 0, width: 1 });
     }
     let x = (a - 48) as u16;
     if !digit(b) {
-        return Decimal { value: x, width: 1 };
+        return Some(Decimal { value: x, width: 1 });
     }
     let y = (b - 48) as u16;
     if !digit(c) {
-        return Decimal {
+        return Some(Decimal {
             value: 10 * x + y,
             width: 2,
-        };
+        });
     }
     let z = (c - 48) as u16;
-    Decimal {
+    Some(Decimal {
         value: 100 * x + (10 * y + z),
         width: 3,
-    }
+    })
 }
 
 // The number that the bytes start with.
-pub fn numeral(s: &[u8]) -> Decimal
+fn numeral(s: &[u8]) -> Option<Decimal>
     ensures { result ≡ numeral s.now }
 {
     numeral_of(byte_at(s, 0), byte_at(s, 1), byte_at(s, 2))
 }
 
 // The cause of digits after a number of so many.
-fn digits_cause(width: usize) -> u8
+#[tactic(auto, unfolding(text_form::specs::Reading::digits_cause))]
+fn digits_cause(width: usize) -> Cause
     ensures { result ≡ digits_cause width }
 {
-    if width == 1 { 15 } else { 16 }
+    if width == 1 {
+        Cause::LeadingZero
+    } else {
+        Cause::TooManyDigits
+    }
 }
 
-// What is wrong with the number that the bytes start with, 0 where nothing is.
-pub fn number_cause(missing: u8, n: Decimal, s: &[u8]) -> u8
-    ensures { result ≡ number_cause missing n s.now }
+// The number that the bytes start with, or what is wrong with it: it is missing, or digits stand after it.
+pub fn number(missing: Cause, s: &[u8]) -> Result<Decimal, Cause>
+    ensures { result ≡ number_read missing s.now }
 {
-    let width = n.width;
-    if width < 1 {
-        return cause_at(missing, s);
+    let Some(n) = numeral(s) else {
+        return Err(cause_at(missing, s));
+    };
+    if digit(byte_at(s, n.width)) {
+        return Err(digits_cause(n.width));
     }
-    if digit(byte_at(s, width)) {
-        return digits_cause(width);
-    }
-    0
+    Ok(n)
 }

@@ -1,9 +1,10 @@
 -- Bytes put one after the other are put as one.
 use Rattle.std.specs.Prelude.{◌+◌, ◌-◌, ◌<◌, ◌≤◌, ℕ, drop, set, take, List, [], ◌++◌, ◌∷◌, ◌≡◌, refl}
-use Rattle.std.proofs.Common.{drop_of_length-le, length-drop, take-append-drop, take_all, take_at, append_assoc, append-nil, ◌∙◌, ap, sym, add-one}
+use Rattle.std.proofs.Common.{take-append-drop, take_at, append_assoc, ◌∙◌, ap, sym, add-one}
 use Rattle.std.proofs.Math.ListN.{length, length-append}
 use Rattle.std.proofs.Math.Seq.{drop-append-add, drop-drop, length-take-le}
 use Rattle.std.proofs.lemmas.List.{set_split}
+use borrow.Rule.Slice.PartMut.{put_mid}
 use native.Mathlib.Omega.{arith}
 use Rattle.model.specs.Listing.{digits_in, field, last_field}
 use Rattle.text_put.specs.Digits.{digits-few}
@@ -21,14 +22,12 @@ module _ (t : List ℕ) (p : ℕ) (w : List ℕ) where
       (rw (take_at (take p t ++ w) (drop (p + length w) t) q a, b, drop-append-add (take p t ++ w) (drop (p + length w) t) (length v), drop-drop (length v) (p + length w) t, c)
       (simp append_assoc))
 
--- the bytes w copied to the start of the part of t from p on
-pub put-copied : (t : List ℕ) (p : ℕ) (w : List ℕ) {n : ℕ} {u : List ℕ} → n ≡ length w → u ≡ take (length w) w ++ drop (length w) (take (length t - p) (drop p t)) →
-    Put t p w (take p t ++ (u ++ drop (length t - p) (drop p t))) (p + n)
+-- a part of n bytes written with n bytes
+pub put-part : (t : List ℕ) (p : ℕ) (w : List ℕ) {n : ℕ} {u : List ℕ} → n ≡ length w → u ≡ w → Put t p w (put_mid p (p + n - p) t u) (p + n)
 unfolding splice
-put-copied t p w {n} {u} e q =
-    let l : length (drop p t) ≤ length t - p = omega (arith, length-drop p t) in
-    let v : u ≡ w ++ drop (p + length w) t = q ∙ rw (take_all (length w) w (omega arith), take_all (length t - p) (drop p t) l, drop-drop (length w) p t) in
-    record { end = ap (λ k. p + k) e; bytes = rw (drop_of_length-le (drop p t) l) (ap (λ x. take p t ++ x) (append-nil u ∙ v)) }
+put-part t p w {n} {u} k e =
+    let l : p + n - p ≡ length w = omega arith in
+    record { end = ap (λ x. p + x) k; bytes = rw (l, e, drop-drop (length w) p t) refl }
 
 -- nothing put
 pub splice-nil : (p : ℕ) (t : List ℕ) → t ≡ splice p [] t

@@ -1,4 +1,5 @@
-// Bytes, numbers and fields put at a place of a lent text, for the programs' lines.
+// Bytes, numbers and fields put at a place of a lent text, for the programs' lines. (The text and the place are lent apart: each
+// method of a struct of both would owe besides that its text keeps its length and is still the same loan.)
 #![tactic(auto)]
 
 ghost use Rattle.std.specs.Prelude.{◌+◌, ◌≤◌, length, [], ◌++◌, ◌∷◌};
@@ -42,7 +43,7 @@ pub fn put_field(text: &mut [u8], at: usize, n: u16) -> usize
     ensures { Put text.old at (field n []) text.new result }
 {
     let end = put_number(text, at, n);
-    put_byte(text, end, 32)
+    put_byte(text, end, b' ')
 }
 
 // Puts a number and the end of the line.
@@ -51,7 +52,7 @@ pub fn put_last(text: &mut [u8], at: usize, n: u16) -> usize
     ensures { Put text.old at (last_field n []) text.new result }
 {
     let end = put_number(text, at, n);
-    put_byte(text, end, 10)
+    put_byte(text, end, b'\n')
 }
 
 // Puts a line of a word and two numbers at the start.

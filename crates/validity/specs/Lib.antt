@@ -1,3 +1,3 @@
--- What the contracts cite, and laws that the proofs cite.
-pub mod Known
+-- What the inner contracts cite, and the laws that the proofs cite.
+pub mod Arriving
 pub mod Laws

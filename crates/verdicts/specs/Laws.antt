@@ -1,11 +1,11 @@
 -- Sets as lists of truth values, and the steps to R.
-use Rattle.std.specs.Prelude.{◌*◌, ◌+◌, ◌-◌, ◌<◌, suc, zero, ℕ, eqb, length, replicate, set, Bool, ◌&&◌, ◌||◌, List, [], ◌∷◌, ◌≡◌, refl}
+use Rattle.std.specs.Prelude.{◌*◌, ◌+◌, ◌-◌, ◌<◌, suc, zero, ℕ, eqb, length, replicate, set, Bool, ◌&&◌, ◌||◌, List, [], ◌∷◌, Some, None, ◌≡◌, refl}
 use borrow.Author.Tests.{eqb-false, ne_eqb, not-true}
 use Rattle.std.proofs.Math.ListN.{get_or}
 use Rattle.std.proofs.Common.{length-set, get_or-set_other, true≢false, ◌∙◌, le_of_suc-le-suc, not-suc-le-zero, add-one, arith}
 use Rattle.std.proofs.Math.Seq.{get_or-set_same}
-use Rattle.std.proofs.Math.Bool.{false, not, true}
-use Rattle.std.proofs.Math.Option.{Option, none}
+use Rattle.std.proofs.Math.Bool.{false, not, or_comm, true}
+use Rattle.std.specs.Prelude.{Option, None, Some}
 use Rattle.std.proofs.Math.Path.{ap, ap₂, fun_ext, subst, sym}
 use Rattle.std.proofs.Math.Decide.{ℕ_discrete}
 use Rattle.model.specs.Finite.{lowest, some_of}
@@ -15,9 +15,7 @@ use Rattle.model.proofs.Laws.Reach.{reached-below, reached-inside, reached-next,
 use Rattle.model.specs.Tables.{Table, is_boundary, is_high, parts, place_i}
 use Rattle.model.specs.Verdicts.{exposed, in_r, marked, opening, reached, verdict_by, verdict_of}
 use Rattle.model.specs.declared.Verdict.TheVariants.{Exposed, Hinted, Sealed}
-use Rattle.verdicts.specs.Reach.{Highs, NoLabel, Origin, ReachClosed, RowReached, Until, found_as}
-use Rattle.verdicts.specs.declared.Found.{Found}
-use Rattle.verdicts.specs.declared.Found.TheVariants.{At, Nothing}
+use Rattle.verdicts.specs.Reach.{Highs, NoLabel, Origin, LowestPassing, ReachClosed, RowReached, Until}
 use Rattle.tables.specs.Grow.{Below, Grown, Inside, Set, Smallest, Any, below_step, same}
 
 -- ---- a store
@@ -75,10 +73,13 @@ module _ (t : Set) (x : ℕ) where
       closed = below_step (RowAt t x) k _ g.closed (λ f. absurd (true≢false (sym f ∙ e)));
     }
 
-    -- `q[k] = b | q[k]`
-    pub row_next : (b : Bool) (q : List Bool) → k < length q → b ≡ t (128 * x + k) → Smallest (Below (RowAt t x) k) s (marked q) → Smallest (Below (RowAt t x) (k + 1)) s (marked (set q k (b || get_or q k false)))
-    row_next true q l e g = row-yes q l (sym e) g
-    row_next false q l e g = subst (λ (u : Set). Smallest (Below (RowAt t x) (k + 1)) s u) (sym (set_same q k l)) (row-no (sym e) g)
+    -- `q[k] |= b`
+    pub row_next : (b : Bool) (q : List Bool) → k < length q → b ≡ t (128 * x + k) → Smallest (Below (RowAt t x) k) s (marked q) → Smallest (Below (RowAt t x) (k + 1)) s (marked (set q k (get_or q k false || b)))
+    row_next b q l e g = subst (λ (v : Bool). Smallest (Below (RowAt t x) (k + 1)) s (marked (set q k v))) (or_comm b (get_or q k false)) (go b e)
+      where
+        go : (b : Bool) → b ≡ t (128 * x + k) → Smallest (Below (RowAt t x) (k + 1)) s (marked (set q k (b || get_or q k false)))
+        go true e = row-yes q l (sym e) g
+        go false e = subst (λ (u : Set). Smallest (Below (RowAt t x) (k + 1)) s u) (sym (set_same q k l)) (row-no (sym e) g)
 
     pub row-end : {s₁ : Set} → k ≡ 64 → Smallest (Below (RowAt t x) k) s s₁ → Smallest (RowReached t x) s s₁
     unfolding RowReached Below
@@ -107,16 +108,10 @@ pub record Unseen (r seen : List Bool) (k : ℕ) : Type 0 where
   pub has : marked r k ≡ true
   pub new : marked seen k ≡ false
 
-module _ (r seen : List Bool) (f : Found) (e : found_as f ≡ lowest (λ k. marked r k && not (marked seen k)) 0 64) where
-  pub unseen-at : (k : ℕ) → f ≡ At k → Unseen r seen k
-  unfolding found_as
-  unseen-at k q =
-      let w = lowest-some (λ j. marked r j && not (marked seen j)) 0 64 k (sym e ∙ ap found_as q) in
-      record { below = omega (arith, w.1); has = and_left _ _ w.2; new = not-true _ (and_right (marked r k) _ w.2) }
-
-  pub unseen-none : f ≡ Nothing → lowest (λ k. marked r k && not (marked seen k)) 0 64 ≡ none
-  unfolding found_as
-  unseen-none q = sym e ∙ ap found_as q
+pub unseen-at : (r seen : List Bool) (k : ℕ) → lowest (λ k. marked r k && not (marked seen k)) 0 64 ≡ Some k → Unseen r seen k
+unseen-at r seen k e =
+    let w = lowest-some (λ j. marked r j && not (marked seen j)) 0 64 k e in
+    record { below = omega (arith, w.1); has = and_left _ _ w.2; new = not-true _ (and_right (marked r k) _ w.2) }
 
 module _ (t : Set) (policy : List ℕ) where
   -- the rows of the labels seen are in r
@@ -137,7 +132,7 @@ module _ (t : Set) (policy : List ℕ) where
         go (no n) = λ k l h. i k (w y (sym (get_or-set_other seen x y true false n) ∙ m) d k l h)
 
     -- all that r has are seen
-    pub seen_all : lowest (λ k. r k && not (marked seen k)) 0 64 ≡ none → ReachClosed t policy r
+    pub seen_all : lowest (λ k. r k && not (marked seen k)) 0 64 ≡ None → ReachClosed t policy r
     unfolding ReachClosed
     seen_all e x l m d = w x (go (marked seen x) refl) d
       where
@@ -257,11 +252,11 @@ until-exposed T policy {high} {q} w h = go (some_of 64 q high) refl
   where
     go : (t : Bool) → some_of 64 q high ≡ t → t ≡ some_of 64 (in_r T policy) (is_high policy)
     go true e = let x = some_of-use q high 64 e in sym (some_of-make _ _ 64 x.0 x.1 (w.inside x.0 x.2) (sym (h x.0 x.1) ∙ x.3))
-    go false e = none (some_of 64 (in_r T policy) (is_high policy)) refl
+    go false e = None (some_of 64 (in_r T policy) (is_high policy)) refl
       where
-        none : (t : Bool) → some_of 64 (in_r T policy) (is_high policy) ≡ t → false ≡ some_of 64 (in_r T policy) (is_high policy)
-        none false f = sym f
-        none true f =
+        None : (t : Bool) → some_of 64 (in_r T policy) (is_high policy) ≡ t → false ≡ some_of 64 (in_r T policy) (is_high policy)
+        None false f = sym f
+        None true f =
             let x = some_of-use (in_r T policy) (is_high policy) 64 f in
             absurd (true≢false (sym (some_of-make q high 64 x.0 x.1 (ap (λ (y : Set). y x.0) (w.whole e) ∙ x.2) (h x.0 x.1 ∙ x.3)) ∙ e))
 
@@ -278,25 +273,25 @@ module _ (u : Set) (policy : List ℕ) (R : Set) (e : R ≡ in_r (parts u) polic
   unfolding verdict_of
   by-searches = ap (λ (X : Set). verdict_by (lowest (λ k. X k && is_high policy k) 0 64) (lowest (λ k. X k && (parts u).S k) 0 64)) e
 
-  pub exposed-is : (f : Found) (k : ℕ) → found_as f ≡ high → f ≡ At k → Exposed k ≡ verdict_of (parts u) policy
-  unfolding verdict_by found_as
-  exposed-is f k p q = ap (λ x. verdict_by x hint) (ap found_as (sym q) ∙ p) ∙ by-searches
+  pub exposed-is : (k : ℕ) → high ≡ Some k → Exposed k ≡ verdict_of (parts u) policy
+  unfolding verdict_by
+  exposed-is k p = ap (λ x. verdict_by x hint) (sym p) ∙ by-searches
 
-  pub hinted-is : (f g : Found) (k : ℕ) → found_as f ≡ high → f ≡ Nothing → found_as g ≡ hint → g ≡ At k → Hinted k ≡ verdict_of (parts u) policy
-  unfolding verdict_by found_as
-  hinted-is f g k p q p' q' = ap₂ verdict_by (ap found_as (sym q) ∙ p) (ap found_as (sym q') ∙ p') ∙ by-searches
+  pub hinted-is : (k : ℕ) → high ≡ None → hint ≡ Some k → Hinted k ≡ verdict_of (parts u) policy
+  unfolding verdict_by
+  hinted-is k p q = ap₂ verdict_by (sym p) (sym q) ∙ by-searches
 
-  pub sealed-is : (f g : Found) → found_as f ≡ high → f ≡ Nothing → found_as g ≡ hint → g ≡ Nothing → Sealed ≡ verdict_of (parts u) policy
-  unfolding verdict_by found_as
-  sealed-is f g p q p' q' = ap₂ verdict_by (ap found_as (sym q) ∙ p) (ap found_as (sym q') ∙ p') ∙ by-searches
+  pub sealed-is : high ≡ None → hint ≡ None → Sealed ≡ verdict_of (parts u) policy
+  unfolding verdict_by
+  sealed-is p q = ap₂ verdict_by (sym p) (sym q) ∙ by-searches
 
--- ---- a search for the lowest number that passes
+-- ---- a search for the lowest number that passes, by a test that answers f
 
-module _ (f : ℕ → Bool) where
-  pub found_at : (k : ℕ) → k < 64 → f k ≡ true → ((j : ℕ) → j < k → f j ≡ false) → found_as (At k) ≡ lowest f 0 64
-  unfolding found_as
-  found_at k l e h = sym (lowest-make f 0 64 k (omega arith) (omega arith) e (λ j _ m. h j m))
+module _ (f : ℕ → Bool) {P : ℕ → Bool → Type 0} where
+  pub lowest-passing : {k : ℕ} → LowestPassing P (Some k) → ((j : ℕ) (b : Bool) → j < 64 → P j b → b ≡ f j) → lowest f 0 64 ≡ Some k
+  unfolding LowestPassing
+  lowest-passing {k} h answers = lowest-make f 0 64 k (omega arith) (omega (arith, h.0)) (sym (answers k true h.0 h.1)) (λ j _ m. sym (answers j false (omega (arith, h.0)) (h.2 j m)))
 
-  pub found_nothing : ((j : ℕ) → j < 64 → f j ≡ false) → found_as Nothing ≡ lowest f 0 64
-  unfolding found_as
-  found_nothing h = sym (lowest-nothing f 0 64 (λ j _ m. h j (omega arith)))
+  pub lowest-passing_none : LowestPassing P None → ((j : ℕ) (b : Bool) → j < 64 → P j b → b ≡ f j) → lowest f 0 64 ≡ None
+  unfolding LowestPassing
+  lowest-passing_none h answers = lowest-nothing f 0 64 (λ j _ m. sym (answers j false (omega arith) (h j (omega arith))))

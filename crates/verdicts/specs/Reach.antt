@@ -1,10 +1,7 @@
 -- What the functions of the search establish.
-use Rattle.std.specs.Prelude.{◌*◌, ◌+◌, ◌<◌, ℕ, get_or, false, true, List, ◌≡◌}
-use Rattle.std.proofs.Math.Option.{Option, none, some}
+use Rattle.std.specs.Prelude.{◌*◌, ◌+◌, ◌<◌, ℕ, get_or, Bool, false, true, List, Option, Some, None, ◌≡◌}
 use Rattle.model.specs.Finite.{some_of}
 use Rattle.model.specs.Tables.{is_high}
-use Rattle.verdicts.specs.declared.Found.{Found}
-use Rattle.verdicts.specs.declared.Found.TheVariants.{At, Nothing}
 use Rattle.tables.specs.Grow.{Set}
 
 -- the labels that may stand directly in x, by the table t, are in u
@@ -20,10 +17,10 @@ pub record Origin (u : Set) : Type 0 where
   pub has : u 0 ≡ true
   pub only : (j : ℕ) → u j ≡ true → j ≡ 0
 
--- what a search found
-unfoldable pub found_as : Found → Option ℕ
-found_as (At k) = some k
-found_as Nothing = none
+-- what `lowest` answers, where P k b says that the test answers b of k: the lowest label that passes, if any
+unfoldable pub LowestPassing : (ℕ → Bool → Type 0) → Option ℕ → Type 0
+LowestPassing P None = (k : ℕ) → k < 64 → P k false
+LowestPassing P (Some k) = (k < 64) × P k true × ((j : ℕ) → j < k → P j false)
 
 -- u has no number
 unfoldable pub NoLabel : Set → Type 0

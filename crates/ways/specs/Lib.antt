@@ -1,4 +1,4 @@
--- Ways up from a record, and their laws.
+-- Ways up from a record, what is found there, and their laws.
 pub mod Ways
 pub mod Laws
 pub mod Valid

@@ -1,35 +1,25 @@
 -- The goals of `enclosures::enclose`; the argument stands in Invariants.
-use native.Mathlib.Omega.{arith}
-use Rattle.ways.specs.Valid.{near-all}
-use Rattle.enclosures.specs.Laws.{passed-end, passed-next, passed-notable, passed_start}
-use Rattle.model.proofs.Laws.Bytes.{valid-few}
+use Rattle.std.proofs.Common.{◌≡◌, arith}
+use Rattle.enclosures.specs.Laws.{passed-end, passed-next, passed_start}
 use Rattle.model.specs.Records.{count}
+use Rattle.ways.specs.Valid.{found-there}
 use Rattle.enclosures.proofs.enclose.Goals as goal
 
-pub overflow_cast-n : goal.overflow_cast-n
-overflow_cast-n c = let pre = c.requires in omega (arith, valid-few _ pre.valid)
-
 pub loop-i-init : goal.loop-i-init
-loop-i-init c = (omega arith, passed_start c.requires)
+loop-i-init c = passed_start c.requires.noting
 
-pub overflow_add-i : goal.overflow_add-i
-overflow_add-i c =
-    omega (arith, c.loop-i-test.true, valid-few _ c.requires.valid)
-
-pub settle-requires : goal.settle-requires
+pub find-requires-clause-inside : goal.find-requires-clause-inside
 unfolding count
-settle-requires c =
-    let pre = c.requires in (passed-notable pre c.loop-i.invariant.1, near-all _ pre.valid _ (omega (arith, c.loop-i-test.true)), omega arith)
-
-pub overflow_add-i-in-loop-i : goal.overflow_add-i-in-loop-i
-overflow_add-i-in-loop-i c =
-    omega (arith, c.loop-i-test.true, valid-few _ c.requires.valid)
+find-requires-clause-inside c = omega arith
 
 pub loop-i-preserved : goal.loop-i-preserved
+unfolding count
 loop-i-preserved c =
-    let pre = c.requires in (omega arith, passed-next pre c.loop-i.invariant.1 c.settle.auto.labels c.settle.auto.boundaries c.settle.ensures)
+    let f = c.find.ensures in
+    passed-next c.requires.valid (omega arith) c.loop-i.invariant c.find.auto.notes f.noted (found-there _ c.requires.valid _ _ (omega arith) _ f.here f.lost)
 
 pub returns : goal.returns
 unfolding count
 returns c =
-    let pre = c.requires in passed-end pre c.loop-i.invariant.1 (omega arith)
+    let e : c.loop-i.i ≡ count c.args.it.now = omega arith in
+    passed-end (rw (← e) c.loop-i.invariant)

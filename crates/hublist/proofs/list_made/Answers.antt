@@ -3,12 +3,12 @@ use Rattle.std.proofs.Common.{arith}
 use Rattle.hublist.specs.Listed.{listed-fits, made-done, made-refused}
 use Rattle.hublist.proofs.list_made.Goals as goal
 
-pub returns-in-Refused : goal.returns-in-Refused
-returns-in-Refused g c =
-    let t = made-refused _ c.args.policy.now _ c.make.result c.make.ensures.0 c.in-Refused.r c.in-Refused.is c.tell.ensures c.args.text.now in
-    (t.0, t.1, c.make.ensures.1, omega (arith, listed-fits _ _ _ t.0))
+pub returns-in-Err : goal.returns-in-Err
+returns-in-Err g c =
+    let t = made-refused _ c.args.policy.now _ c.make.result c.make.ensures.answer c.in-Err.r c.in-Err.is c.tell.ensures c.args.text.now in
+    record { length = t.0; bytes = t.1; table = c.make.ensures.table; within = omega (arith, listed-fits _ _ _ t.0) }
 
-pub returns-in-Done : goal.returns-in-Done
-returns-in-Done g c =
-    let t = made-done _ c.args.policy.now _ c.make.result c.make.ensures.0 _ c.in-Done.is _ _ c.make.ensures.1 c.list.ensures in
-    (t.0, t.1, c.make.ensures.1, omega (arith, listed-fits _ _ _ t.0))
+pub returns-in-Ok : goal.returns-in-Ok
+returns-in-Ok g c =
+    let t = made-done _ c.args.policy.now _ c.make.result c.make.ensures.answer _ c.in-Ok.is _ _ c.make.ensures.table (c.list.ensures.length, c.list.ensures.bytes) in
+    record { length = t.0; bytes = t.1; table = c.make.ensures.table; within = omega (arith, listed-fits _ _ _ t.0) }

@@ -13,6 +13,10 @@ pub slice_bounds-screen_text-end-4 : goal.slice_bounds-screen_text-end-4
 slice_bounds-screen_text-end-4 c =
     sym (length-take-le _ _ (omega (arith, c.answers_for-n.ensures, answers-few c.load-l.result.more c.load-l.result.len, c.load-l.ensures.counts.0)))
 
-pub first-requires : goal.first-requires
-first-requires c =
-    omega (arith, shown-fits _ _ _ _ c.screen_text-r.ensures.0, text-sized _ _ _ _ _ c.screen_text-r.ensures.1 c.room-text.ensures)
+pub slice_bounds-text-end : goal.slice_bounds-text-end
+slice_bounds-text-end c =
+    omega (arith, shown-fits _ _ _ _ c.screen_text-r.ensures.length, text-sized _ _ _ _ _ c.screen_text-r.ensures.text c.room-text.ensures)
+
+pub slice_bounds-write-end : goal.slice_bounds-write-end
+slice_bounds-write-end c =
+    sym (length-take-le _ _ (omega (arith, shown-fits _ _ _ _ c.screen_text-r.ensures.length, text-sized _ _ _ _ _ c.screen_text-r.ensures.text c.room-text.ensures)))

@@ -5,4 +5,4 @@ use Rattle.hubtext.proofs.put_none.Goals as goal
 
 pub returns : goal.returns
 unfolding no_itinerary
-returns c = put-over (put_one c.args.it.now 0 0 c.requires)
+returns c = let w = put-over (put_one c.args.it.now 0 0 c.requires) in record { length = w.0; bytes = w.1 }

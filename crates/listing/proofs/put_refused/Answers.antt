@@ -5,4 +5,4 @@ use Rattle.listing.proofs.put_refused.Goals as goal
 
 pub returns : goal.returns
 unfolding listing refused_word refusal
-returns c = c.put_line.ensures
+returns c = rw (← c.number.ensures) c.put_line.ensures

@@ -1,9 +1,7 @@
 -- `listing::put_steps` meets its contract. The loop's invariant: with the lines of the steps from k on put at the end, the text
--- is what all lines make of it. What falls is the number of steps not yet shown.
-use Prim.Native.Nat.{◌-◌, ◌≤◌}
+-- is what all lines make of it.
 use lib.ListN.{length}
 use mathlib.Core.List.{[]}
-use mathlib.Core.Path.{◌≡◌}
 use Rattle.listing.specs.Laws.{ahead}
 use Rattle.model.specs.Listing.{step_lines}
 use Rattle.model.specs.Scripts.{steps_in}
@@ -12,7 +10,4 @@ use Rattle.scripts.specs.Runs.{Script}
 use Rattle.listing.proofs.put_steps.Given as goal
 
 abbrev pub invariant-loop-k : goal.invariant-loop-k
-invariant-loop-k l = (l.k ≤ l.n) × (l.n ≡ length l.answers) × Script l.script (length l.answers) × Putting l.initial.text l.at (step_lines (steps_in l.script) l.answers []) l.text l.end (ahead l.script l.answers l.k)
-
-abbrev pub decreases-loop-k : goal.decreases-loop-k
-decreases-loop-k l = l.n - l.k
+invariant-loop-k l = Script l.script (length l.answers) × Putting l.initial.text l.at (step_lines (steps_in l.script) l.answers []) l.text l.end (ahead l.script l.answers l.k)

@@ -5,7 +5,7 @@ use Rattle.std.proofs.Math.Bool.{Bool, not}
 use Rattle.std.specs.Prelude.{◌&&◌, false, true, List, ◌⊎◌, ◌≡◌}
 use Rattle.std.proofs.Common.{true≢false, inl, ◌∙◌, ap, sym, arith}
 use Rattle.std.proofs.Math.Logic.{inr}
-use Rattle.std.proofs.Math.Option.{Option, none, some}
+use Rattle.std.specs.Prelude.{Option, None, Some}
 use Rattle.std.proofs.Math.Path.{refl}
 use Rattle.model.specs.Analysis.{Permit}
 use Rattle.model.specs.Climbing.{climb, nearest, nesting}
@@ -60,9 +60,9 @@ module _ (T : Table) (policy : List ℕ) where
       both k = in_r T policy k && T.S k
 
       go : (o o' : Option ℕ) → lowest both 0 64 ≡ o' → verdict_by o o' ≡ Sealed → (k : ℕ) → k < 64 → T.S k ≡ true → in_r T policy k ≡ false
-      go (some j) o' e w k l s = let u : ◌≡◌ {A = ℕ} 0 1 = cc in absurd (omega arith)
-      go none (some j) e w k l s = let u : ◌≡◌ {A = ℕ} 0 1 = cc in absurd (omega arith)
-      go none none e w k l s = clear (in_r T policy k) (T.S k) (lowest-none both 0 64 e k (omega arith) l) s
+      go (Some j) o' e w k l s = let u : ◌≡◌ {A = ℕ} 0 1 = cc in absurd (omega arith)
+      go None (Some j) e w k l s = let u : ◌≡◌ {A = ℕ} 0 1 = cc in absurd (omega arith)
+      go None None e w k l s = clear (in_r T policy k) (T.S k) (lowest-none both 0 64 e k (omega arith) l) s
 
 -- the environment is not suspect
 pub environment-clear : {T : Table} {policy : List ℕ} → SealedOff T policy → T.S 0 ≡ false

@@ -1,19 +1,17 @@
 -- The laws of checks in sequence: what they let through, what a call answers by them, and what its buffers keep. The code
--- holds what a sequence of checks found as a value, `Checked`; a gate is a function that takes the value so far and one
--- check more. Laws of gates: `gate-kept` and `gate-open` for a gate itself, `passed`, `refused-by` and `stopped` for its
--- callers; what a sequence that passed says is found by `search passes`, and that one passes by `search all_pass`.
+-- holds what a sequence of checks found as a Result, and goes on by `?`: `passed`, `refused-by`, `stopped` and `goes_on` say
+-- what that tells of the sequence; what a sequence that passed says is found by `search passes`, and that one passes by
+-- `search all_pass`.
 use Prim.Native.Nat.{◌+◌, ◌-◌, ◌<◌, ◌≤◌, suc, zero, ℕ}
 use Rattle.std.proofs.Common.{eqb-true, ◌∙◌}
-use Rattle.std.specs.Prelude.{length, Bool, false, true, List, ◌≡◌}
+use Rattle.std.specs.Prelude.{length, Bool, false, true, List, ◌≡◌, Result, Ok, Err}
 use Rattle.std.proofs.Math.Path.{ap, refl, sym}
 use Rattle.std.proofs.Math.Decide.{ℕ_discrete}
 use native.Mathlib.Omega.{arith}
 use Rattle.model.proofs.Laws.Booleans.{and_left}
-use Rattle.model.specs.Numbers.{checked_as, refusal}
+use Rattle.model.specs.Numbers.{answer_as, check_as, number_of, refusal}
 use Rattle.model.specs.Refusals.{Check, and_then, answer, content, done, each_of, need, pass, refuse, refused}
 use Rattle.model.specs.Tables.{policy_right, table_right, table_sized}
-use Rattle.model.specs.declared.Checked.{Checked}
-use Rattle.model.specs.declared.Checked.TheVariants.{Pass, Refuse}
 use Rattle.model.specs.declared.Refusal.{Refusal}
 
 pub then-pass : (a b : Check) → and_then a b ≡ pass → (a ≡ pass) × (b ≡ pass)
@@ -123,7 +121,7 @@ answer-refused pass x h = let u : ◌≡◌ {A = ℕ} 0 1 = cc in absurd (omega 
 answer-refused (refuse n i) x h = cc
 
 -- the two answers of a call: refused, and done
-pub refuse-answer : {A : Type 0} {c : Check} (x : A) (r : Refusal) → c ≡ refuse r.number r.record → refusal r ≡ answer c x
+pub refuse-answer : {A : Type 0} {c : Check} (x : A) (r : Refusal) → c ≡ refuse (number_of r.cause) r.«record» → refusal r ≡ answer c x
 unfolding refusal
 refuse-answer x r e = sym (answer-refuse x e)
 
@@ -140,15 +138,6 @@ content-new x y e = sym (rw (e, content))
 
 -- ---- checks as a value
 
--- a gate: what was refused before stays, and otherwise its own check decides
-pub gate-kept : (b : Checked) (k : Check) {r : Refusal} → b ≡ Refuse r → checked_as b ≡ and_then (checked_as b) k
-unfolding checked_as and_then
-gate-kept b k e = rw e
-
-pub gate-open : {b : Checked} {k c : Check} → b ≡ Pass → c ≡ k → c ≡ and_then (checked_as b) k
-unfolding checked_as and_then
-gate-open e q = rw e q
-
 pub need-true : {b : Bool} (n r : ℕ) → b ≡ true → pass ≡ need b n r
 unfolding need
 need-true n r e = sym (rw e)
@@ -158,19 +147,40 @@ unfolding need
 need-false n r e = sym (rw e)
 
 -- what the value says of the check it stands for
-module _ (c : Checked) (k : Check) (h : checked_as c ≡ k) where
-  pub passed : c ≡ Pass → k ≡ pass
-  unfolding checked_as
-  passed e = sym h ∙ ap checked_as e
+module _ {A : Type 0} (v : Result A Refusal) (k : Check) (h : check_as v ≡ k) where
+  pub passed : {x : A} → v ≡ Ok x → k ≡ pass
+  unfolding check_as
+  passed e = sym h ∙ ap check_as e
 
-  pub refused-by : {r : Refusal} → c ≡ Refuse r → k ≡ refuse r.number r.record
-  unfolding checked_as
-  refused-by e = sym h ∙ ap checked_as e
+  pub refused-by : {r : Refusal} → v ≡ Err r → k ≡ refuse (number_of r.cause) r.«record»
+  unfolding check_as
+  refused-by e = sym h ∙ ap check_as e
 
   -- a check that refuses stands for every longer sequence
-  pub stopped : {r : Refusal} (next : Check) → c ≡ Refuse r → checked_as c ≡ and_then k next
-  unfolding checked_as and_then
-  stopped next e = gate-kept c next e ∙ ap (λ x. and_then x next) h
+  pub stopped : (w : Result (Unit {0}) Refusal) {r : Refusal} (next : Check) → v ≡ Err r → w ≡ Err r → check_as w ≡ and_then k next
+  unfolding check_as and_then
+  stopped w next e q = rw (q, refused-by e)
+
+  -- behind a check that passes the next decides
+  pub goes_on : (w : Result (Unit {0}) Refusal) {x : A} (next : Check) → v ≡ Ok x → check_as w ≡ next → check_as w ≡ and_then k next
+  unfolding and_then
+  goes_on w next e q = q ∙ sym (then_next next (passed e))
+
+-- what an answer says of the check behind it
+module _ {A : Type 0} (v : Result A Refusal) (k : Check) (x : A) (h : answer_as v ≡ answer k x) where
+  pub answered-done : {y : A} → v ≡ Ok y → k ≡ pass
+  unfolding answer_as
+  answered-done {y} e = answer-done k x y (sym h ∙ ap answer_as e)
+
+  pub answered-refused : {r : Refusal} → v ≡ Err r → k ≡ refuse (number_of r.cause) r.«record»
+  unfolding answer_as refusal
+  answered-refused e = answer-refused k x (sym h ∙ ap answer_as e)
+
+-- a call that answers its checks alone
+pub answer-check : (v : Result (Unit {0}) Refusal) (k : Check) → check_as v ≡ k → answer_as v ≡ answer k tt
+unfolding check_as answer_as refusal answer
+answer-check (Ok x) k e = ap (λ c. answer c tt) e
+answer-check (Err r) k e = ap (λ c. answer c tt) e
 
 -- ---- what a check that passed says
 

@@ -2,7 +2,7 @@
 use Rattle.std.specs.Prelude.{◌≤◌, suc, zero, ℕ, eqb, length, Bool, ◌&&◌, false, not, true, List, [], ◌∷◌, ◌≢◌, ◌≡◌, refl}
 use borrow.Author.Tests.{eqb-false, eqb-true, not-true}
 use Rattle.std.proofs.Common.{true≢false, ◌∙◌, ap, subst, sym, arith}
-use Rattle.std.proofs.Math.Option.{Option, none, some}
+use Rattle.std.specs.Prelude.{Option, None, Some}
 use Rattle.model.specs.Analysis.{Permit}
 use Rattle.model.proofs.Laws.Bytes.{length-records, valid-passed, records-encode, size-le, valid-wf, wf-valid}
 use Rattle.model.proofs.Laws.Forest.{Depth, above, under_of}
@@ -26,14 +26,14 @@ unfolding is_ambient
 same-amb s = rw s.kind
 
 pub record Done (permit : Permit) (k : Capability) (its : List Rec) (c b : ℕ) : Type 0 where
-  pub cap : capability (at its c).kind ≡ some k
+  pub cap : capability (at its c).kind ≡ Some k
   pub is_ready : ready k its (parent_of its c) ≡ true
   pub amb : is_ambient (at its b) ≡ true
   pub name : (at its b).name ≡ (at its c).name
   pub stand : stands k its (parent_of its c) b ≡ true
   pub right : permit k (at its (parent_of its c)).label (at its b).label ≡ true
 
-pub done-of : {permit : Permit} {k : Capability} {its : List Rec} {c b : ℕ} → capability (at its c).kind ≡ some k → ready k its (parent_of its c) ≡ true → fit permit k its c b ≡ true → Done permit k its c b
+pub done-of : {permit : Permit} {k : Capability} {its : List Rec} {c b : ℕ} → capability (at its c).kind ≡ Some k → ready k its (parent_of its c) ≡ true → fit permit k its c b ≡ true → Done permit k its c b
 unfolding fit
 done-of {permit} {k} {its} {c} {b} e r f =
     let f₁ = and_left _ (permit k (at its (parent_of its c)).label (at its b).label) f in
@@ -52,14 +52,14 @@ pub outcome-done : {permit : Permit} {its : List Rec} {c b : ℕ} (k : Capabilit
 unfolding outcome outcome_by decide
 outcome-done {permit} {its} {c} {b} k = go (capability (at its c).kind) refl
   where
-    tests : (j : Capability) → capability (at its c).kind ≡ some j → (r f : Bool) → ready j its (parent_of its c) ≡ r → fit permit j its c b ≡ f → decide j r f ≡ done-by k → Done permit k its c b
+    tests : (j : Capability) → capability (at its c).kind ≡ Some j → (r f : Bool) → ready j its (parent_of its c) ≡ r → fit permit j its c b ≡ f → decide j r f ≡ done-by k → Done permit k its c b
     tests j e false f p q w = let u : ◌≡◌ {A = ℕ} 0 1 = cc in absurd (omega arith)
     tests j e true false p q w = let u : ◌≡◌ {A = ℕ} 0 1 = cc in absurd (omega arith)
     tests j e true true p q w = let u : j ≡ k = cc in subst (λ x. Done permit x its c b) u (done-of e p q)
 
     go : (o : Option Capability) → capability (at its c).kind ≡ o → outcome_by permit o its c b ≡ done-by k → Done permit k its c b
-    go none e w = let u : ◌≡◌ {A = ℕ} 0 1 = cc in absurd (omega arith)
-    go (some j) e w = tests j e (ready j its (parent_of its c)) (fit permit j its c b) refl refl w
+    go None e w = let u : ◌≡◌ {A = ℕ} 0 1 = cc in absurd (omega arith)
+    go (Some j) e w = tests j e (ready j its (parent_of its c)) (fit permit j its c b) refl refl w
 
 -- a step is refused with 10, 11 or 12
 abbrev Refusing : ℕ → Type 0
@@ -73,18 +73,18 @@ decide-refused k true true n e = let u : ◌≡◌ {A = ℕ} 0 1 = cc in absurd 
 
 by-refused : (permit : Permit) (o : Option Capability) (its : List Rec) (c b n : ℕ) → outcome_by permit o its c b ≡ refused-with n → Refusing n
 unfolding outcome_by
-by-refused permit none its c b n e = let u : ◌≡◌ {A = ℕ} 10 n = cc in (omega arith, omega arith)
-by-refused permit (some k) its c b n e = decide-refused k _ _ n e
+by-refused permit None its c b n e = let u : ◌≡◌ {A = ℕ} 10 n = cc in (omega arith, omega arith)
+by-refused permit (Some k) its c b n e = decide-refused k _ _ n e
 
 pub refused-number : (permit : Permit) (its : List Rec) (c b n : ℕ) → outcome permit its c b ≡ refused-with n → (10 ≤ n) × (n ≤ 12)
 unfolding outcome
 refused-number permit its c b n e = by-refused permit _ its c b n e
 
-pub cap-alive : (its : List Rec) (c : ℕ) (k : Capability) → capability (at its c).kind ≡ some k → Alive its c
+pub cap-alive : (its : List Rec) (c : ℕ) (k : Capability) → capability (at its c).kind ≡ Some k → Alive its c
 unfolding capability
-cap-alive its c k e h = let w : ◌≡◌ {A = Option Capability} none (some k) = rw h at e in let u : ◌≡◌ {A = ℕ} 0 1 = cc in omega arith
+cap-alive its c k e h = let w : ◌≡◌ {A = Option Capability} None (Some k) = rw h at e in let u : ◌≡◌ {A = ℕ} 0 1 = cc in omega arith
 
-kind-nested : (r : Rec) (n : ℕ) (k : Capability) → r.kind ≡ n → capability n ≡ some k → nested r ≡ true
+kind-nested : (r : Rec) (n : ℕ) (k : Capability) → r.kind ≡ n → capability n ≡ Some k → nested r ≡ true
 unfolding capability nested
 kind-nested r zero k q e = let u : ◌≡◌ {A = ℕ} 0 1 = cc in absurd (omega arith)
 kind-nested r (suc zero) k q e = let u : ◌≡◌ {A = ℕ} 0 1 = cc in absurd (omega arith)
@@ -93,10 +93,10 @@ kind-nested r (suc (suc (suc zero))) k q e = rw q
 kind-nested r (suc (suc (suc (suc zero)))) k q e = rw q
 kind-nested r (suc (suc (suc (suc (suc n))))) k q e = let u : ◌≡◌ {A = ℕ} 0 1 = cc in absurd (omega arith)
 
-pub cap-nested : (r : Rec) (k : Capability) → capability r.kind ≡ some k → nested r ≡ true
+pub cap-nested : (r : Rec) (k : Capability) → capability r.kind ≡ Some k → nested r ≡ true
 cap-nested r k e = kind-nested r r.kind k refl e
 
-pub cap-not-amb : (its : List Rec) (c : ℕ) (k : Capability) → capability (at its c).kind ≡ some k → is_ambient (at its c) ≡ false
+pub cap-not-amb : (its : List Rec) (c : ℕ) (k : Capability) → capability (at its c).kind ≡ Some k → is_ambient (at its c) ≡ false
 unfolding capability is_ambient
 cap-not-amb its c k e = go (is_ambient (at its c)) refl
   where
@@ -104,7 +104,7 @@ cap-not-amb its c k e = go (is_ambient (at its c)) refl
     go false q = refl
     go true q =
         let o : (at its c).kind ≡ 1 = eqb-true _ _ q in
-        let w : ◌≡◌ {A = Option Capability} none (some k) = rw o at e in let u : ◌≡◌ {A = ℕ} 0 1 = cc in absurd (omega arith)
+        let w : ◌≡◌ {A = Option Capability} None (Some k) = rw o at e in let u : ◌≡◌ {A = ℕ} 0 1 = cc in absurd (omega arith)
 
 module _ {permit : Permit} {its : List Rec} {c b : ℕ} (wf : WellFormed its) where
   -- in: the holder q of c gets b for its parent
@@ -218,7 +218,7 @@ module _ {permit : Permit} {its : List Rec} (wf : WellFormed its) {c b : ℕ} wh
   move-wf k d = rw (move-first k its c b) (dissolve-wf (first-wf k d) c (cap-pos k d))
 
 -- the kind of a capability
-pub kind-of : (n : ℕ) (k : Capability) → capability n ≡ some k → n ≡ kind_of k
+pub kind-of : (n : ℕ) (k : Capability) → capability n ≡ Some k → n ≡ kind_of k
 unfolding capability kind_of
 kind-of zero k h = let u : ◌≡◌ {A = ℕ} 0 1 = cc in absurd (omega arith)
 kind-of (suc zero) k h = let u : ◌≡◌ {A = ℕ} 0 1 = cc in absurd (omega arith)

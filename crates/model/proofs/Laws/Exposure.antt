@@ -2,7 +2,7 @@
 -- high exactly where there is a lowest such one, which is where the verdict is exposed.
 use Rattle.std.specs.Prelude.{ℕ, Bool, ◌&&◌, false, true, List, ◌≡◌, refl}
 use Rattle.std.proofs.Common.{true≢false, ◌∙◌, ap, sym, arith}
-use Rattle.std.proofs.Math.Option.{Option, none, some}
+use Rattle.std.specs.Prelude.{Option, None, Some}
 use Rattle.model.specs.Calls.{checking, exposed_answer, verdict_answer}
 use Rattle.model.specs.Finite.{lowest, some_of}
 use Rattle.model.proofs.Laws.Booleans.{and_left, and-make, and_right}
@@ -23,14 +23,14 @@ some-lowest : (t f : ℕ → Bool) (both : Option ℕ) → some_of 64 t f ≡ is
 unfolding is_exposed verdict_by
 some-lowest t f both = go (lowest (λ k. t k && f k) 0 64) refl both
   where
-    none_has : lowest (λ k. t k && f k) 0 64 ≡ none → (b : Bool) → some_of 64 t f ≡ b → b ≡ false
+    none_has : lowest (λ k. t k && f k) 0 64 ≡ None → (b : Bool) → some_of 64 t f ≡ b → b ≡ false
     none_has e true h = let w = some_of-use t f 64 h in absurd (true≢false (sym (and-make w.2 w.3) ∙ lowest-none (λ k. t k && f k) 0 64 e w.0 (omega arith) (omega (arith, w.1))))
     none_has e false h = refl
 
     go : (o : Option ℕ) → lowest (λ k. t k && f k) 0 64 ≡ o → (p : Option ℕ) → some_of 64 t f ≡ is_exposed (verdict_by o p)
-    go (some k) e p = let w = lowest-some (λ j. t j && f j) 0 64 k e in some_of-make t f 64 k (omega (arith, w.1)) (and_left _ _ w.2) (and_right (t k) _ w.2)
-    go none e (some k) = none_has e _ refl
-    go none e none = none_has e _ refl
+    go (Some k) e p = let w = lowest-some (λ j. t j && f j) 0 64 k e in some_of-make t f 64 k (omega (arith, w.1)) (and_left _ _ w.2) (and_right (t k) _ w.2)
+    go None e (Some k) = none_has e _ refl
+    go None e None = none_has e _ refl
 
 pub exposed-is : (T : Table) (policy : List ℕ) → exposed T policy ≡ is_exposed (verdict_of T policy)
 unfolding exposed verdict_of

@@ -3,7 +3,7 @@ use Prim.Native.Nat.{◌+◌, ◌<◌, ◌≤◌, suc, zero, ℕ}
 use Rattle.std.specs.Prelude.{get_or, length, replicate, Bool}
 use Rattle.std.proofs.Math.Bool.{false, true}
 use Rattle.std.proofs.Common.{true≢false, ◌∙◌, add-suc, add-zero}
-use Rattle.std.proofs.Math.Option.{none, some}
+use Rattle.std.specs.Prelude.{None, Some}
 use Rattle.std.proofs.Math.Path.{◌≡◌, ap, refl, sym}
 use Rattle.std.proofs.Math.Decide.{ℕ_discrete}
 use Rattle.std.proofs.Math.Nat.{suc-add}
@@ -49,19 +49,19 @@ module _ (t f : ℕ → Bool) where
       go true e ih = every_take n e (h n (omega arith) e) ∙ ih
 
 module _ (f : ℕ → Bool) where
-  lowest_step : (i n : ℕ) → lowest f i (suc n) ≡ none → (f i ≡ false) × (lowest f (suc i) n ≡ none)
+  lowest_step : (i n : ℕ) → lowest f i (suc n) ≡ None → (f i ≡ false) × (lowest f (suc i) n ≡ None)
   unfolding lowest
   lowest_step i n h = go (f i) refl
     where
-      go : (t : Bool) → f i ≡ t → (f i ≡ false) × (lowest f (suc i) n ≡ none)
-      go true e = let w : lowest f i (suc n) ≡ some i = rw (e, lowest) in let u : ◌≡◌ {A = ℕ} 0 1 = cc in absurd (omega arith)
+      go : (t : Bool) → f i ≡ t → (f i ≡ false) × (lowest f (suc i) n ≡ None)
+      go true e = let w : lowest f i (suc n) ≡ Some i = rw (e, lowest) in let u : ◌≡◌ {A = ℕ} 0 1 = cc in absurd (omega arith)
       go false e = (e, (let w : lowest f i (suc n) ≡ lowest f (suc i) n = rw (e, lowest) in sym w ∙ h))
 
-  pub lowest-none : (i n : ℕ) → lowest f i n ≡ none → (j : ℕ) → i ≤ j → j < i + n → f j ≡ false
+  pub lowest-none : (i n : ℕ) → lowest f i n ≡ None → (j : ℕ) → i ≤ j → j < i + n → f j ≡ false
   lowest-none i zero h j l m = absurd (omega arith)
   lowest-none i (suc n) h j l m = go (ℕ_discrete j i) (lowest_step i n h) (λ h' l'. lowest-none (suc i) n h' j l' (omega arith))
     where
-      go : Dec (j ≡ i) → (f i ≡ false) × (lowest f (suc i) n ≡ none) → (lowest f (suc i) n ≡ none → suc i ≤ j → f j ≡ false) → f j ≡ false
+      go : Dec (j ≡ i) → (f i ≡ false) × (lowest f (suc i) n ≡ None) → (lowest f (suc i) n ≡ None → suc i ≤ j → f j ≡ false) → f j ≡ false
       go (yes e) w ih = rw e w.0
       go (no e) w ih = ih w.1 (omega arith)
 
@@ -103,7 +103,7 @@ module _ (t f : ℕ → Bool) where
       go (yes q) ih = some_of-hit n (rw q at e) (rw q at g)
       go (no q) ih = rest (ih (omega arith)) (t n) (f n) refl refl
 
-pub lowest-nothing : (f : ℕ → Bool) (i n : ℕ) → ((j : ℕ) → i ≤ j → j < i + n → f j ≡ false) → lowest f i n ≡ none
+pub lowest-nothing : (f : ℕ → Bool) (i n : ℕ) → ((j : ℕ) → i ≤ j → j < i + n → f j ≡ false) → lowest f i n ≡ None
 unfolding lowest
 lowest-nothing f i zero h = refl
 lowest-nothing f i (suc n) h = let e = h i (omega arith) (omega arith) in rw (e, lowest) (lowest-nothing f (suc i) n (λ j l m. h j (omega arith) (omega arith)))
@@ -124,15 +124,15 @@ module _ (t f : ℕ → Bool) where
 
 module _ (f : ℕ → Bool) where
   -- what the lowest number is
-  pub lowest-some : (i n k : ℕ) → lowest f i n ≡ some k → (i ≤ k) × (k < i + n) × (f k ≡ true) × ((j : ℕ) → i ≤ j → j < k → f j ≡ false)
+  pub lowest-some : (i n k : ℕ) → lowest f i n ≡ Some k → (i ≤ k) × (k < i + n) × (f k ≡ true) × ((j : ℕ) → i ≤ j → j < k → f j ≡ false)
   unfolding lowest
   lowest-some i zero k h = let u : ◌≡◌ {A = ℕ} 0 1 = cc in absurd (omega arith)
   lowest-some i (suc n) k h = go (f i) refl (lowest-some (suc i) n k)
     where
-      go : (t : Bool) → f i ≡ t → (lowest f (suc i) n ≡ some k → (suc i ≤ k) × (k < suc i + n) × (f k ≡ true) × ((j : ℕ) → suc i ≤ j → j < k → f j ≡ false)) →
+      go : (t : Bool) → f i ≡ t → (lowest f (suc i) n ≡ Some k → (suc i ≤ k) × (k < suc i + n) × (f k ≡ true) × ((j : ℕ) → suc i ≤ j → j < k → f j ≡ false)) →
           (i ≤ k) × (k < i + suc n) × (f k ≡ true) × ((j : ℕ) → i ≤ j → j < k → f j ≡ false)
       go true e ih =
-          let w : lowest f i (suc n) ≡ some i = rw (e, lowest) in
+          let w : lowest f i (suc n) ≡ Some i = rw (e, lowest) in
           let u : i ≡ k = cc in
           (omega arith, omega arith, ap f (sym u) ∙ e, λ j l m. absurd (omega arith))
       go false e ih =
@@ -144,13 +144,13 @@ module _ (f : ℕ → Bool) where
           at-start j (yes q) l m v = ap f q ∙ e
           at-start j (no q) l m v = v.3 j (omega arith) m
 
-  pub lowest-make : (i n k : ℕ) → i ≤ k → k < i + n → f k ≡ true → ((j : ℕ) → i ≤ j → j < k → f j ≡ false) → lowest f i n ≡ some k
+  pub lowest-make : (i n k : ℕ) → i ≤ k → k < i + n → f k ≡ true → ((j : ℕ) → i ≤ j → j < k → f j ≡ false) → lowest f i n ≡ Some k
   unfolding lowest
   lowest-make i zero k l m e h = absurd (omega arith)
   lowest-make i (suc n) k l m e h = go (ℕ_discrete i k) (lowest-make (suc i) n k)
     where
-      go : Dec (i ≡ k) → (suc i ≤ k → k < suc i + n → f k ≡ true → ((j : ℕ) → suc i ≤ j → j < k → f j ≡ false) → lowest f (suc i) n ≡ some k) → lowest f i (suc n) ≡ some k
-      go (yes q) ih = let w : f i ≡ true = ap f q ∙ e in rw (w, lowest) (ap some q)
+      go : Dec (i ≡ k) → (suc i ≤ k → k < suc i + n → f k ≡ true → ((j : ℕ) → suc i ≤ j → j < k → f j ≡ false) → lowest f (suc i) n ≡ Some k) → lowest f i (suc n) ≡ Some k
+      go (yes q) ih = let w : f i ≡ true = ap f q ∙ e in rw (w, lowest) (ap Some q)
       go (no q) ih = rw (h i (omega arith) (omega arith), lowest) (ih (omega arith) (omega arith) e (λ j a b. h j (omega arith) b))
 
 -- copies of a alone are found, past the end too where a is what stands for nothing

@@ -2,7 +2,7 @@
 use Rattle.std.specs.Prelude.{◌<◌, suc, ℕ, length, Bool, List}
 use Rattle.std.proofs.Math.Bool.{false, true}
 use Rattle.std.proofs.Common.{true≢false, ◌∙◌, sym, arith}
-use Rattle.std.proofs.Math.Option.{Option, none, some}
+use Rattle.std.specs.Prelude.{Option, None, Some}
 use Rattle.std.proofs.Math.Path.{◌≡◌, refl, subst}
 use Rattle.model.specs.Analysis.{Permit, holds, only_if, record_holds, row_inside, rule_holds, rules_hold}
 use Rattle.model.specs.Climbing.{container}
@@ -42,7 +42,7 @@ Rule permit T cap-open t n = (b p : ℕ) → b < 64 → p < 64 → permit cap-op
 pub record Fits (permit : Permit) (T : Table) (c : ℕ) (r : Rec) : Type 0 where
   pub nest : nested r ≡ true → T.I c r.label ≡ true
   pub names : is_ambient r ≡ true → T.H r.label r.name ≡ true
-  pub rules : (k : Capability) → capability r.kind ≡ some k → Rule permit T k r.label r.name
+  pub rules : (k : Capability) → capability r.kind ≡ Some k → Rule permit T k r.label r.name
 
 pub record Holds (permit : Permit) (policy : List ℕ) (its : List Rec) (T : Table) : Type 0 where
   pub fits : (i : ℕ) → Fits permit T (container its i) (at its i)
@@ -84,15 +84,15 @@ module _ (permit : Permit) (T : Table) where
       let w = f b p lb lp (and_right (T.H b n) _ hb) ip (and_left _ _ r) (and_left _ _ hb) in
       and-make (every-make _ _ _ w.0) (only_if-make _ _ w.1)))
 
-  rules-sound : (o : Option Capability) (r : Rec) → rules_hold permit T o r ≡ true → (k : Capability) → o ≡ some k → Rule permit T k r.label r.name
+  rules-sound : (o : Option Capability) (r : Rec) → rules_hold permit T o r ≡ true → (k : Capability) → o ≡ Some k → Rule permit T k r.label r.name
   unfolding rules_hold
-  rules-sound none r h k e = let u : ◌≡◌ {A = ℕ} 0 1 = cc in absurd (omega arith)
-  rules-sound (some j) r h k e = let u : j ≡ k = cc in subst (λ x. Rule permit T x r.label r.name) u (rule-sound j r.label r.name h)
+  rules-sound None r h k e = let u : ◌≡◌ {A = ℕ} 0 1 = cc in absurd (omega arith)
+  rules-sound (Some j) r h k e = let u : j ≡ k = cc in subst (λ x. Rule permit T x r.label r.name) u (rule-sound j r.label r.name h)
 
-  rules-complete : (o : Option Capability) (r : Rec) → ((k : Capability) → o ≡ some k → Rule permit T k r.label r.name) → rules_hold permit T o r ≡ true
+  rules-complete : (o : Option Capability) (r : Rec) → ((k : Capability) → o ≡ Some k → Rule permit T k r.label r.name) → rules_hold permit T o r ≡ true
   unfolding rules_hold
-  rules-complete none r f = refl
-  rules-complete (some j) r f = rule-complete j r.label r.name (f j refl)
+  rules-complete None r f = refl
+  rules-complete (Some j) r f = rule-complete j r.label r.name (f j refl)
 
   -- one record
   pub fits-sound : (c : ℕ) (r : Rec) → record_holds permit T c r ≡ true → Fits permit T c r

@@ -3,7 +3,7 @@ use Rattle.std.specs.Prelude.{◌%◌, ◌*◌, ◌+◌, ◌<◌, ◌^◌, ◌�
 use borrow.Author.Tests.{eq-eqb, le-leb, lt-leb, ne_eqb}
 use Rattle.std.proofs.Math.Bool.{not, true}
 use Rattle.std.proofs.Common.{true≢false, ◌∙◌, sym}
-use Rattle.std.proofs.Math.Option.{some}
+use Rattle.std.specs.Prelude.{Some}
 use Rattle.std.proofs.Math.Path.{ap}
 use native.Mathlib.Omega.{arith}
 use Rattle.model.specs.Analysis.{Permit, holds}
@@ -86,7 +86,7 @@ module _ (permit : Permit) (policy : List ℕ) (its : List Rec) where
   inside-least : (n b p : ℕ) → ((c : ℕ) → c < 2 ^ 12352 → holds permit policy its (parts (test_bit c)) ≡ true → Inside n (parts (test_bit c)).I b p) → Inside n (parts least_set).I b p
   inside-least n b p f k lk i = from-least _ (λ c l h. f c l h k lk (of-least c l h _ i))
 
-  rule-least : (i : ℕ) (k : Capability) → capability (at its i).kind ≡ some k → Rule permit (parts least_set) k (at its i).label (at its i).name
+  rule-least : (i : ℕ) (k : Capability) → capability (at its i).kind ≡ Some k → Rule permit (parts least_set) k (at its i).label (at its i).name
   rule-least i cap-in e = λ a b p la lb lp may ia ipa ipb hb. (
     from-least _ (λ c l h. (((fits_in c h).fits i).rules cap-in e a b p la lb lp may (of-least c l h _ ia) (of-least c l h _ ipa) (of-least c l h _ ipb) (of-least c l h _ hb)).0),
     infects-least _ _ (λ c l h. (((fits_in c h).fits i).rules cap-in e a b p la lb lp may (of-least c l h _ ia) (of-least c l h _ ipa) (of-least c l h _ ipb) (of-least c l h _ hb)).1),

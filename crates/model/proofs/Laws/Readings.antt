@@ -7,7 +7,7 @@
 use Prim.Native.Nat.{◌+◌, ◌≤◌, ℕ}
 use Rattle.std.proofs.Common.{eq-eqb, ne_eqb, true≢false, ◌∙◌, ap, ap₂, sym}
 use Rattle.std.specs.Prelude.{eqb, true, List, ◌≢◌, ◌≡◌}
-use Rattle.std.proofs.Math.Option.{some}
+use Rattle.std.specs.Prelude.{Some}
 use Rattle.std.proofs.Math.Path.{refl, subst}
 use Rattle.std.proofs.Math.Decide.{dec_le, ℕ_discrete}
 use native.Mathlib.Omega.{arith}
@@ -45,7 +45,7 @@ says_same e (says-cap k l n) = says-cap (ap capability e.kind ∙ k) (e.label �
 pub ambient-said : {r : Rec} {l n : ℕ} → Says r (ambient l n) → (is_ambient r ≡ true) × (r.label ≡ l) × (r.name ≡ n)
 ambient-said (says-ambient a l n) = (a, l, n)
 
-pub cap-said : {r : Rec} {k : Capability} {l n : ℕ} → Says r (cap k l n) → (capability r.kind ≡ some k) × (r.label ≡ l) × (r.name ≡ n)
+pub cap-said : {r : Rec} {k : Capability} {l n : ℕ} → Says r (cap k l n) → (capability r.kind ≡ Some k) × (r.label ≡ l) × (r.name ≡ n)
 cap-said (says-cap k l n) = (k, l, n)
 
 pub says-alive : (its : List Rec) (i : ℕ) {h : Head} → Says (at its i) h → Alive its i

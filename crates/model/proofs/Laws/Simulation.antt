@@ -2,7 +2,7 @@
 use Rattle.std.specs.Prelude.{ℕ, Bool, List, ◌≢◌, ◌≡◌}
 use Rattle.std.proofs.Math.Bool.{false, true}
 use Rattle.std.proofs.Common.{true≢false, ◌∙◌}
-use Rattle.std.proofs.Math.Option.{Option, none, some}
+use Rattle.std.specs.Prelude.{Option, None, Some}
 use Rattle.std.proofs.Math.Path.{ap, refl, sym}
 use Rattle.model.specs.Analysis.{Permit}
 use Rattle.model.specs.Climbing.{ambient_and, ambients, hidden, is_suspect, ambients_only}
@@ -106,7 +106,7 @@ module _ {permit : Permit} {policy : List ℕ} {T : Table} {its : List Rec} (wf 
   unfolding fit is_ambient
   fit-gone k hb = rw (sheet-hidden its T.S b hb)
 
-  same-fit : (k : Capability) → hidden its T.S c ≡ false → capability (at its c).kind ≡ some k → ready k its (parent_of its c) ≡ true → fit permit k (sheet its T.S) c b ≡ fit permit k its c b
+  same-fit : (k : Capability) → hidden its T.S c ≡ false → capability (at its c).kind ≡ Some k → ready k its (parent_of its c) ≡ true → fit permit k (sheet its T.S) c b ≡ fit permit k its c b
   same-fit k hc e r = by-hidden wf T.S b (λ hb. fit-gone k hb ∙ sym (go hb (fit permit k its c b) refl)) (fit-shown k hc)
     where
       go : hidden its T.S b ≡ true → (t : Bool) → fit permit k its c b ≡ t → t ≡ false
@@ -121,13 +121,13 @@ module _ {permit : Permit} {policy : List ℕ} {T : Table} {its : List Rec} (wf 
       hq : hidden its T.S (parent_of its c) ≡ false
       hq = shown-parent wf T.S c hc
 
-      at_ready : (k : Capability) → capability (at its c).kind ≡ some k → (t : Bool) → ready k its (parent_of its c) ≡ t → decide k t (fit permit k (sheet its T.S) c b) ≡ decide k t (fit permit k its c b)
+      at_ready : (k : Capability) → capability (at its c).kind ≡ Some k → (t : Bool) → ready k its (parent_of its c) ≡ t → decide k t (fit permit k (sheet its T.S) c b) ≡ decide k t (fit permit k its c b)
       at_ready k e true r = ap (decide k true) (same-fit k hc e r)
       at_ready k e false r = refl
 
       go : (o : Option Capability) → capability (at its c).kind ≡ o → outcome_by permit o (sheet its T.S) c b ≡ outcome_by permit o its c b
-      go none e = refl
-      go (some k) e = rw (sheet-parent wf T.S c hc, same-ready wf T.S k (parent_of its c) hq) (at_ready k e (ready k its (parent_of its c)) refl)
+      go None e = refl
+      go (Some k) e = rw (sheet-parent wf T.S c hc, same-ready wf T.S k (parent_of its c) hq) (at_ready k e (ready k its (parent_of its c)) refl)
 
   pub outcome-gone : (l : List Rec) → at l c ≡ gone → outcome permit l c b ≡ refused-with 10
   unfolding outcome outcome_by capability

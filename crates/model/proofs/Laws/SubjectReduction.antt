@@ -2,7 +2,7 @@
 use Rattle.std.specs.Prelude.{ℕ, Bool, false, List, ◌≡◌, refl}
 use Rattle.std.proofs.Math.Dec.{eqb}
 use Rattle.std.proofs.Math.Bool.{true}
-use Rattle.std.proofs.Math.Option.{some}
+use Rattle.std.specs.Prelude.{Some}
 use Rattle.std.proofs.Common.{◌∙◌, ap, sym}
 use Rattle.model.specs.Analysis.{Permit}
 use Rattle.model.specs.Climbing.{container, labelled, nearest, nesting}
@@ -76,7 +76,7 @@ module _ {permit : Permit} {policy : List ℕ} {its : List Rec} {T : Table} (wf 
     fits = λ i. record {
       nest = (move-moved (nestings T.I) (nesting-mono T.I) wf (λ j n. (holds.fits j).nest n) k d (nesting-gives k d)).nest i;
       names = λ h. move-each wf (λ x l n. eqb x 1 ≡ true → T.H l n ≡ true) (λ j _. (holds.fits j).names) k d i (amb-alive _ i h) h;
-      rules = λ j h. move-each wf (λ x l n. (e : Capability) → capability x ≡ some e → Rule permit T e l n) (λ x _. (holds.fits x).rules) k d i (cap-alive _ i j h) j h;
+      rules = λ j h. move-each wf (λ x l n. (e : Capability) → capability x ≡ Some e → Rule permit T e l n) (λ x _. (holds.fits x).rules) k d i (cap-alive _ i j h) j h;
     };
     high = holds.high;
   }

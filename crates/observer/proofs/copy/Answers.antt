@@ -8,11 +8,10 @@ loop-i-preserved c =
     let l = c.loop-i in
     let lt : l.i < length l.sheet = omega arith in (
       simp length-set l.invariant.0,
-      omega arith,
       below_more _ _
-          (λ k h. let ne : k ≢ l.i = omega arith in rw get_or-set_other (l.invariant.2 k h))
+          (λ k h. let ne : k ≢ l.i = omega arith in rw get_or-set_other (l.invariant.1 k h))
           (rw get_or-set_same),
     )
 
 pub returns : goal.returns
-returns c = let l = c.loop-i in ext_get_or 0 _ _ l.invariant.0 (λ k h. l.invariant.2 k (omega arith))
+returns c = let l = c.loop-i in ext_get_or 0 _ _ l.invariant.0 (λ k h. l.invariant.1 k (omega arith))

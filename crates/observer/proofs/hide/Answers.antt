@@ -1,59 +1,50 @@
 -- The goals of `observer::hide`; the argument stands in Invariants.
-use mathlib.Core.Path.{◌∙◌, refl, sym}
-use native.Mathlib.Omega.{arith}
+use Rattle.std.proofs.Common.{◌∙◌, ◌≡◌, ◌+◌, Bool, [], refl, sym, arith}
 use Rattle.records.specs.Written.{pass-end, pass-length, pass-next, pass-read, pass-whole, written_none}
+use Rattle.model.specs.Climbing.{hidden}
 use Rattle.model.specs.Observer.{sheet, sheet_of}
-use Rattle.model.specs.Records.{count}
-use Rattle.observer.specs.Laws.{markable, sheet-gone, sheet-stands}
-use Rattle.model.proofs.Laws.Bytes.{valid-few, valid-whole}
-use Rattle.ways.specs.Valid.{near-all}
-use Rattle.std.proofs.Common.{rules}
+use Rattle.model.specs.Records.{count, records}
+use Rattle.model.specs.Tables.{suspects}
+use Rattle.observer.specs.Laws.{sheet-gone, sheet-stands}
+use Rattle.model.proofs.Laws.Bytes.{valid-whole}
+use Rattle.ways.specs.Laws.{found-is}
+use Rattle.ways.specs.Valid.{found-some}
 use Rattle.observer.proofs.hide.Goals as goal
-use Rattle.observer.proofs.hide.Goals.{then-settled, else-settled}
+use Rattle.observer.proofs.hide.Goals.{After-unwrap, then-unwrap, else-unwrap}
 
-pub overflow_cast-n : goal.overflow_cast-n
-overflow_cast-n c = omega (arith, valid-few _ c.requires.0.valid)
+-- what is found is whether record i + 1 is hidden
+told : (c : After-unwrap) → c.unwrap.result ≡ hidden (records c.args.it.now) (suspects c.args.table.now) (c.loop-i.i + 1)
+unfolding count
+told c = let f = c.find.ensures in (found-is f.noted _ (omega arith) _ f.here c.unwrap.ensures).is
 
 pub loop-i-init : goal.loop-i-init
-loop-i-init c = (search rules, c.requires.0, refl, c.requires.1 ∙ written_none _ _)
+loop-i-init c = (c.requires.noting, c.requires.copied ∙ written_none _ _)
 
-pub overflow_add-i : goal.overflow_add-i
-overflow_add-i c = omega (arith, valid-few _ c.requires.0.valid)
-
-pub overflow_cast-n-in-loop-i : goal.overflow_cast-n-in-loop-i
-overflow_cast-n-in-loop-i c = omega (arith, valid-few _ c.requires.0.valid)
-
-pub settled-requires : goal.settled-requires
+pub find-requires-clause-inside : goal.find-requires-clause-inside
 unfolding count
-settled-requires c = (c.loop-i.invariant.1, near-all _ c.requires.0.valid _ (omega arith), omega arith)
+find-requires-clause-inside c = omega arith
 
-pub overflow_add-i-then-settled : goal.overflow_add-i-then-settled
-overflow_add-i-then-settled c =
-    omega (arith, valid-few _ c.requires.0.valid)
+pub unwrap-requires : goal.unwrap-requires
+unfolding count
+unwrap-requires c = found-some _ c.requires.valid {A = Bool} [] (c.loop-i.i + 1) (omega arith) _ c.find.ensures.lost
 
 pub put_record-requires : goal.put_record-requires
 unfolding count
 put_record-requires c =
-    let e = pass-length _ _ _ _ _ c.loop-i.invariant.3 (omega arith) (omega arith) in (omega arith, omega arith)
-
-pub overflow_add-i-in-loop-i : goal.overflow_add-i-in-loop-i
-overflow_add-i-in-loop-i c =
-    omega (arith, valid-few _ c.requires.0.valid)
+    let e = pass-length _ _ _ _ _ c.loop-i.invariant.1 (omega arith) (omega arith) in record { some = omega arith; whole = omega arith }
 
 pub loop-i-preserved : goal.loop-i-preserved
 unfolding count
 loop-i-preserved c =
-    let l = c.loop-i in let h = c.settled in (
-      omega arith,
-      markable l.invariant.1 h.auto.marks h.ensures.1,
-      h.auto.marks ∙ l.invariant.2,
-      elim c.if-settled.branch [
-        | then-settled v ↦ v.sheet-is ∙ v.put_record.ensures ∙ pass-next _ _ _ _ _ l.invariant.3 (omega arith) _ _ refl (c.gone-gone.ensures ∙ sheet-gone _ _ _ _ h.ensures.0 v.if-settled.true)
-        | else-settled v ↦ v.sheet-is ∙ sym (pass-whole _ _ _ _ l.invariant.3 (λ j. omega (arith, c.type_inv.it j)) c.requires.0.valid (omega arith))
-            ∙ pass-next _ _ _ _ _ l.invariant.3 (omega arith) _ _ refl (pass-read _ _ _ _ _ l.invariant.3 (omega arith) ∙ sheet-stands _ _ _ _ h.ensures.0 v.if-settled.false)
+    let l = c.loop-i in let h = told (goal.at.loop-i-preserved c).After-unwrap in (
+      c.find.ensures.noted.noting,
+      elim c.if-unwrap.branch [
+        | then-unwrap v ↦ v.sheet-is ∙ v.put_record.ensures ∙ pass-next _ _ _ _ _ l.invariant.1 (omega arith) _ _ refl (c.gone-gone.ensures ∙ sheet-gone _ _ _ _ h v.if-unwrap.true)
+        | else-unwrap v ↦ v.sheet-is ∙ sym (pass-whole _ _ _ _ l.invariant.1 (λ j. omega (arith, c.type_inv.it j)) c.requires.valid (omega arith))
+            ∙ pass-next _ _ _ _ _ l.invariant.1 (omega arith) _ _ refl (pass-read _ _ _ _ _ l.invariant.1 (omega arith) ∙ sheet-stands _ _ _ _ h v.if-unwrap.false)
       ],
     )
 
 pub returns : goal.returns
 unfolding sheet_of sheet count
-returns c = (pass-end _ _ _ _ _ c.loop-i.invariant.3 (omega arith) (omega (arith, valid-whole _ c.requires.0.valid)), c.loop-i.invariant.1.marked)
+returns c = pass-end _ _ _ _ _ c.loop-i.invariant.1 (omega arith) (omega (arith, valid-whole _ c.requires.valid))

@@ -1,7 +1,10 @@
 -- `observer::write_sheet` meets its contract. The sheet starts as a copy of the itinerary and only the environment decided;
 -- hiding goes on from there.
-use Rattle.observer.specs.Laws.{marked-root}
+use Rattle.model.specs.Climbing.{hiding}
+use Rattle.model.specs.Tables.{suspects}
+use Rattle.ways.specs.Laws.{noting-root}
+use Rattle.ways.specs.Valid.{valid-parented}
 use Rattle.observer.proofs.write_sheet.Goals as goal
 
 pub hide-requires : goal.hide-requires
-hide-requires c = let w = c.requires in (marked-root w.0 w.1, c.copy.ensures)
+hide-requires c = record { valid = c.requires.valid; noting = noting-root (hiding (suspects c.args.table.now)) (valid-parented _ c.requires.valid); copied = c.copy.ensures }

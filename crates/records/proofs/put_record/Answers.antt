@@ -26,4 +26,4 @@ pub bounds-it-at-8 : goal.bounds-it-at-8
 bounds-it-at-8 c = simp length-set (omega arith)
 
 pub returns : goal.returns
-returns c = stores _ _ _ c.requires.0 c.requires.1
+returns c = stores _ _ _ c.requires.some c.requires.whole

@@ -1,10 +1,6 @@
--- `records::record_at` meets its contract: a whole record is read directly.
-use Rattle.records.specs.Laws.{record-direct}
-use native.Mathlib.Omega.{arith}
+-- `records::record_at` meets its contract: a record within the count is whole.
+use Rattle.std.proofs.Common.{arith}
 use Rattle.records.proofs.record_at.Goals as goal
 
-pub parent_of-requires : goal.parent_of-requires
-parent_of-requires c = (omega (arith, c.if-i-eq0.false), omega (arith, c.if-it-at.false, c.if-i-eq0.false))
-
-pub returns : goal.returns
-returns c = record-direct _ _ _ c.if-i-eq0.false c.parent_of.ensures
+pub record_in-requires : goal.record_in-requires
+record_in-requires c = record { some = omega (arith, c.if-i-eq0.false); whole = omega (arith, c.if-it-i.false) }

@@ -5,14 +5,14 @@ use Rattle.screen_text.proofs.screen_text.Goals as goal
 
 pub put_screen-requires : goal.put_screen-requires
 put_screen-requires c =
-    let screen = c.screen in room-done _ c.args.policy.now _ _ screen.result screen.ensures.0 _ c.in-Done.is _ screen.ensures.2 screen.auto.answers _ (search rules)
+    let screen = c.screen in let w = room-done _ c.args.policy.now _ _ screen.result screen.ensures.answer _ c.in-Ok.is _ screen.ensures.answers screen.auto.answers _ (search rules) in record { right = w.0; fits = w.1 }
 
-pub returns-in-Refused : goal.returns-in-Refused
-returns-in-Refused c =
-    let screen = c.screen in let t = text-refused _ c.args.policy.now _ _ screen.result screen.ensures.0 _ c.in-Refused.is c.put_refused.ensures in
-    (t.0, t.1, screen.ensures.1, screen.ensures.2)
+pub returns-in-Err : goal.returns-in-Err
+returns-in-Err c =
+    let screen = c.screen in let t = text-refused _ c.args.policy.now _ _ screen.result screen.ensures.answer _ c.in-Err.is c.put_refused.ensures in
+    record { length = t.0; text = t.1; itinerary = screen.ensures.itinerary; answers = screen.ensures.answers }
 
-pub returns-in-Done : goal.returns-in-Done
-returns-in-Done c =
-    let screen = c.screen in let t = text-done _ c.args.policy.now _ _ screen.result screen.ensures.0 _ c.in-Done.is _ screen.ensures.2 c.put_screen.ensures in
-    (t.0, t.1, screen.ensures.1, screen.ensures.2)
+pub returns-in-Ok : goal.returns-in-Ok
+returns-in-Ok c =
+    let screen = c.screen in let t = text-done _ c.args.policy.now _ _ screen.result screen.ensures.answer _ c.in-Ok.is _ screen.ensures.answers c.put_screen.ensures in
+    record { length = t.0; text = t.1; itinerary = screen.ensures.itinerary; answers = screen.ensures.answers }

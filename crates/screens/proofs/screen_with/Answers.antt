@@ -8,24 +8,21 @@ use Rattle.screens.proofs.screen_with.Goals as goal
 pub write_least-ones-requires : goal.write_least-ones-requires
 unfolding screening entry
 write_least-ones-requires c =
-    let e = c.requires.1 in record { table_len = c.requires.0; valid = search passes depth 20; policy_len = search passes depth 20 }
-
-pub verdict_of-verdict-requires : goal.verdict_of-verdict-requires
-unfolding screening entry
-verdict_of-verdict-requires c =
-    let e = c.requires.1 in record { table_len = search rules; policy_len = search passes depth 20 }
+    let e = c.requires in record { valid = search passes depth 20; table_len = search rules }
 
 pub run-counts-requires : goal.run-counts-requires
 unfolding screening entry
 run-counts-requires c =
-    let e = c.requires.1 in (search passes depth 20, search passes depth 20)
+    let e = c.requires in record { valid = search passes depth 20; right = search passes depth 20 }
 
 pub not_gone-requires : goal.not_gone-requires
 unfolding screening entry
 not_gone-requires c =
-    let e = c.requires.1 in run-sized _ _ _ (search passes depth 20) c.run-counts.ensures.1
+    let e = c.requires in let w = run-sized _ _ _ (search passes depth 20) c.run-counts.ensures.itinerary in record { whole = w.0; few = w.1 }
 
 pub returns : goal.returns
 returns c =
-    screen-done _ _ _ _ c.requires.1 _ c.write_least-ones.new.table _ _
-    c.write_least-ones.ensures.made c.write_least-ones.ensures.counted c.verdict_of-verdict.ensures c.run-counts.ensures c.not_gone.ensures
+    let r = c.run-counts.ensures in
+    let w = screen-done _ _ _ _ c.requires _ c.write_least-ones.new.table _ _
+    c.write_least-ones.ensures.made c.write_least-ones.ensures.counted c.verdict_of-verdict.ensures (r.counts, r.itinerary, r.answers) c.not_gone.ensures in
+    record { answer = w.0; itinerary = w.1; answers = w.2 }

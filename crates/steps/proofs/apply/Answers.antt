@@ -7,27 +7,24 @@ use mathlib.Core.Path.{◌∙◌, refl}
 use Rattle.model.proofs.Laws.Bytes.{valid-few, valid-whole}
 use Rattle.steps.proofs.apply.Goals as goal
 
-pub overflow_cast-n : goal.overflow_cast-n
-overflow_cast-n c = omega (arith, valid-few _ c.requires)
+pub overflow_cast-i-end : goal.overflow_cast-i-end
+overflow_cast-i-end c = omega (arith, valid-few _ c.requires)
 
 pub loop-i-init : goal.loop-i-init
-loop-i-init c = (omega arith, written_none _ _)
+loop-i-init c = written_none _ _
 
 pub overflow_add-i : goal.overflow_add-i
 overflow_add-i c = omega (arith, valid-few _ c.requires)
 
 pub remake-requires : goal.remake-requires
 unfolding count
-remake-requires c = let e = pass-length _ _ _ _ _ c.loop-i.invariant.1 (omega arith) (omega arith) in
-    (omega arith, omega arith, pass-whole _ _ _ _ c.loop-i.invariant.1 (λ j. omega (arith, c.slice_known-1.given j)) c.requires (omega arith))
-
-pub overflow_add-i-in-loop-i : goal.overflow_add-i-in-loop-i
-overflow_add-i-in-loop-i c = omega (arith, valid-few _ c.requires)
+remake-requires c = let e = pass-length _ _ _ _ _ c.loop-i.invariant (omega arith) (omega arith) in
+    (omega arith, omega arith, pass-whole _ _ _ _ c.loop-i.invariant (λ j. omega (arith, c.slice_known-1.given j)) c.requires (omega arith))
 
 pub loop-i-preserved : goal.loop-i-preserved
 unfolding count
-loop-i-preserved c = (omega arith, c.remake.ensures ∙ pass-next _ _ _ _ _ c.loop-i.invariant.1 (omega arith) _ _ (pass-read _ _ _ _ _ c.loop-i.invariant.1 (omega arith)) refl)
+loop-i-preserved c = c.remake.ensures ∙ pass-next _ _ _ _ _ c.loop-i.invariant (omega arith) _ _ (pass-read _ _ _ _ _ c.loop-i.invariant (omega arith)) refl
 
 pub returns : goal.returns
 unfolding applied count
-returns c = pass-end _ _ _ _ _ c.loop-i.invariant.1 (omega arith) (omega (arith, valid-whole _ c.requires))
+returns c = pass-end _ _ _ _ _ c.loop-i.invariant (omega arith) (omega (arith, valid-whole _ c.requires))

@@ -1,11 +1,10 @@
 -- `table_closure::close` meets its contract. I first, which never reads S; then S with the movers of that I.
 use Rattle.table_closure.specs.Rounds.{close-end}
 use Rattle.model.proofs.Laws.Finite.{replicated}
-use mathlib.Core.Path.{refl}
 use Rattle.table_closure.proofs.close.Goals as goal
 
 pub close_nesting-requires : goal.close_nesting-requires
-close_nesting-requires c = let p = c.requires in record { w_len = p.w_len; partners_len = p.partners_len; movers_len = refl; cleared = replicated 0 192 }
+close_nesting-requires c = replicated 0 192
 
 pub returns : goal.returns
 returns c =

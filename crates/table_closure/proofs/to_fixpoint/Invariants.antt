@@ -4,15 +4,14 @@
 use Prim.Native.Nat.{◌-◌, ◌<◌, ℕ}
 use Rattle.model.specs.Tables.{total}
 use Rattle.tables.specs.Grow.{Grown, Any}
-use lib.ListN.{length}
-use mathlib.Core.Path.{◌≡◌}
+use Rattle.model.proofs.Laws.Sets.{Narrow}
 use Rattle.table_words.specs.BitSets.{Bits}
 use Rattle.table_movers.specs.Rules.{NestingClosed}
 use Rattle.table_closure.specs.Sweeps.{Owed}
 use Rattle.table_closure.proofs.to_fixpoint.Given as goal
 
 abbrev pub invariant-loop-dirty : goal.invariant-loop-dirty
-invariant-loop-dirty l = (length l.w ≡ length l.initial.w) × ((q : ℕ) → q < 64 → Owed l.movers l.w l.dirty q) × Grown (NestingClosed l.movers) Any (Bits l.initial.w) (Bits l.w)
+invariant-loop-dirty l = Narrow 64 l.w × ((q : ℕ) → q < 64 → Owed l.movers l.w l.dirty q) × Grown (NestingClosed l.movers) Any (Bits l.initial.w) (Bits l.w)
 
 abbrev pub decreases-loop-dirty : goal.decreases-loop-dirty
 decreases-loop-dirty l = 12352 - total l.w

@@ -1,11 +1,12 @@
 -- `table_holds::nesting_holds` meets its contract. The labels found are the nearest from each number on upwards.
-use Rattle.enclosures.specs.Laws.{labels-are, notes-root}
+use Rattle.enclosures.specs.Laws.{nearests-are, notes-root}
 use Rattle.table_holds.proofs.nesting_holds.Goals as goal
 
 pub enclose-requires : goal.enclose-requires
-enclose-requires c =
-    let pre = c.requires in notes-root pre.valid pre.policy_len
+enclose-requires c = record { valid = c.requires; noting = rw c.notes-notes.ensures (notes-root _ c.args.policy.now c.requires) }
 
-pub nesting_holds_by_labels-requires : goal.nesting_holds_by_labels-requires
-nesting_holds_by_labels-requires c =
-    let pre = c.requires in record { valid = pre.valid; table_len = pre.table_len; nearests = labels-are c.args.policy.now _ (notes-root {policy = c.args.policy.now} pre.valid pre.policy_len).room c.enclose.ensures.0 }
+pub nesting_holds_by-requires : goal.nesting_holds_by-requires
+nesting_holds_by-requires c = record {
+  valid = c.requires;
+  nearests = nearests-are c.args.policy.now _ (rw c.notes-notes.ensures (notes-root _ c.args.policy.now c.requires).passable.room) c.enclose.ensures;
+}

@@ -10,13 +10,13 @@ pub returns-then-not-bit : goal.returns-then-not-bit
 unfolding place_i
 returns-then-not-bit c = stood-not _ _ _ (sym c.bit.ensures ∙ c.if-not-bit.true)
 
-pub returns-then-r-ne1 : goal.returns-then-r-ne1
+pub returns-then-not-is_ambient : goal.returns-then-not-is_ambient
 unfolding place_i
-returns-then-r-ne1 c = stood-other _ _ _ (sym c.bit.ensures ∙ c.if-not-bit.false) c.if-r-ne1.true
+returns-then-not-is_ambient c = stood-other _ _ _ (sym c.bit.ensures ∙ c.if-not-bit.false) (sym c.is_ambient.ensures ∙ c.if-not-is_ambient.true)
 
 pub bit-requires-2 : goal.bit-requires-2
-bit-requires-2 c = let f = ambient-form c.args.r c.requires.shaped c.if-r-ne1.false in let x = f.0 in let y = f.1 in omega arith
+bit-requires-2 c = let f = ambient-form c.args.r c.requires.shaped (sym c.is_ambient.ensures ∙ c.if-not-is_ambient.false) in let x = f.0 in let y = f.1 in omega arith
 
 pub returns : goal.returns
 unfolding place_i place_h
-returns c = c.bit-2.ensures ∙ stood-ambient _ _ _ (sym c.bit.ensures ∙ c.if-not-bit.false) c.if-r-ne1.false
+returns c = c.bit-2.ensures ∙ stood-ambient _ _ _ (sym c.bit.ensures ∙ c.if-not-bit.false) (sym c.is_ambient.ensures ∙ c.if-not-is_ambient.false)

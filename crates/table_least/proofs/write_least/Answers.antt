@@ -1,14 +1,15 @@
 -- `table_least::write_least` meets its contract: the least set that has the seed and is closed is the least that holds.
-use mathlib.Core.Path.{◌∙◌}
+use Rattle.std.proofs.Common.{◌∙◌, ap}
 use Rattle.table_least.specs.Laws.{made}
 use Rattle.model.proofs.Laws.Bytes.{valid-wf}
 use Rattle.model.specs.Records.{records}
+use Rattle.model.specs.Tables.{total}
 use Rattle.table_least.proofs.write_least.Goals as goal
 
 pub returns : goal.returns
 returns c =
-    let it = c.args.it.now in record {
-      made = made (records it) (valid-wf it c.requires.valid) c.args.policy.now c.seed.new.table c.close_table.new.table (c.close_table.auto.table ∙ c.seed.auto.table ∙ c.requires.table_len) (λ i. (c.slice_known-3-1.given i).fits)
-          c.seed.ensures c.close_table.ensures;
-      counted = c.count_ones.ensures;
+    let it = c.args.it.now in let q = c.close_table in
+    record {
+      made = made (records it) (valid-wf it c.requires.valid) c.args.policy.now c.seed.new.table q.new.table (q.auto.table ∙ c.seed.auto.table ∙ c.requires.table_len) q.ensures.narrow c.seed.ensures q.ensures.closed;
+      counted = c.count_ones.ensures ∙ ap total c.whole.ensures;
     }

@@ -7,5 +7,5 @@ use Rattle.table_movers.proofs.movers_of.Goals as goal
 
 pub returns : goal.returns
 returns c =
-    let t = c.transpose in let f = c.fold_partners in let a = c.args in movers-added a.partners.now (Bits a.w.now) a.movers.now _ c.requires.only_movers
+    let t = c.transpose in let f = c.fold_partners in let a = c.args in movers-added a.partners.now (Bits a.w.now) a.movers.now _ c.requires
     (folded-movers a.w.now _ t.new.columns a.partners.now (replicated 0 64) t.ensures f.ensures)

@@ -14,7 +14,7 @@ is : (c : Else-not-is_capability) → is_capability c.args.r ≡ true
 is c = sym c.is_capability.ensures ∙ c.if-not-is_capability.false
 
 form : (c : Else-not-is_capability) → CapabilityForm c.args.r
-form c = capability-form c.args.r c.requires.shaped (is c)
+form c = capability-form c.args.r c.requires (is c)
 
 pub returns-then-not-is_capability : goal.returns-then-not-is_capability
 returns-then-not-is_capability c = let a = c.args in added_none _ a.r a.partners.now (sym c.is_capability.ensures ∙ c.if-not-is_capability.true)
@@ -41,4 +41,4 @@ pub returns : goal.returns
 unfolding slot
 returns c =
     let a = c.args in let k : slot a.r < 192 = slot_small a.r (form (goal.at.returns c).Else-not-is_capability) (is (goal.at.returns c).Else-not-is_capability) in
-    added-one a.bearers.now a.r a.partners.now (λ i. (c.shared_slice_known-2-1.given i).fits) (is (goal.at.returns c).Else-not-is_capability) (omega arith)
+    added-one a.bearers.now a.r a.partners.now c.fits-bearers (is (goal.at.returns c).Else-not-is_capability) (omega arith)

@@ -9,32 +9,30 @@ use Rattle.table_seed.specs.Seeds.{CellsSet}
 use Rattle.table_seed.specs.Laws.{cells-no, cells-none, cells-yes}
 use Rattle.model.specs.Tables.{bits, is_high, place_s}
 use Rattle.table_seed.proofs.fill_high.Goals as goal
-use Rattle.table_seed.proofs.fill_high.Goals.{then-policy-k-eq1, else-policy-k-eq1}
+use Rattle.table_seed.proofs.fill_high.Goals.{then-policy-k-eq-HIGH, else-policy-k-eq-HIGH}
 
 pub loop-k-init : goal.loop-k-init
-loop-k-init c = (refl, omega arith, cells-none (is_high c.args.policy.now) place_s)
+loop-k-init c = (refl, cells-none (is_high c.args.policy.now) place_s)
 
 pub set_bit-requires : goal.set_bit-requires
-set_bit-requires c = let e = c.loop-k.invariant.0 ∙ c.requires.table_len in omega arith
+set_bit-requires c = let e = c.loop-k.invariant.0 ∙ c.requires in omega arith
 
 pub loop-k-preserved : goal.loop-k-preserved
 unfolding is_high place_s
 loop-k-preserved c =
-    let a = c.args in let p = c.loop-k in let l : length p.table ≡ 1544 = p.invariant.0 ∙ c.requires.table_len in
-    elim c.if-policy-k-eq1.branch [
-      | then-policy-k-eq1 v ↦ (
+    let a = c.args in let p = c.loop-k in let l : length p.table ≡ 1544 = p.invariant.0 ∙ c.requires in
+    elim c.if-policy-k-eq-HIGH.branch [
+      | then-policy-k-eq-HIGH v ↦ (
         ap length v.table-is ∙ v.set_bit.auto.table ∙ p.invariant.0,
-        omega arith,
-        cells-yes (is_high a.policy.now) place_s p.k p.table _ (12288 + p.k) (eq-eqb _ _ v.if-policy-k-eq1.true) refl (omega arith) (v.table-is ∙ v.set_bit.ensures) p.invariant.2,
+        cells-yes (is_high a.policy.now) place_s p.k p.table _ (12288 + p.k) (eq-eqb _ _ v.if-policy-k-eq-HIGH.true) refl (omega arith) (v.table-is ∙ v.set_bit.ensures) p.invariant.1,
       )
-      | else-policy-k-eq1 v ↦ (
+      | else-policy-k-eq-HIGH v ↦ (
         ap length v.table-is ∙ p.invariant.0,
-        omega arith,
-        subst (λ (y : List ℕ). CellsSet (is_high a.policy.now) place_s (p.k + 1) (bits a.table.now) (bits y)) (sym v.table-is) (cells-no (is_high a.policy.now) place_s p.k (ne_eqb _ _ v.if-policy-k-eq1.false) p.invariant.2),
+        subst (λ (y : List ℕ). CellsSet (is_high a.policy.now) place_s (p.k + 1) (bits a.table.now) (bits y)) (sym v.table-is) (cells-no (is_high a.policy.now) place_s p.k (ne_eqb _ _ v.if-policy-k-eq-HIGH.false) p.invariant.1),
       )
     ]
 
 pub returns : goal.returns
 returns c =
     let a = c.args in let e : c.loop-k.k ≡ 64 = omega arith in
-    subst (λ (k : ℕ). CellsSet (is_high a.policy.now) place_s k (bits a.table.now) (bits c.loop-k.table)) e c.loop-k.invariant.2
+    subst (λ (k : ℕ). CellsSet (is_high a.policy.now) place_s k (bits a.table.now) (bits c.loop-k.table)) e c.loop-k.invariant.1

@@ -1,6 +1,5 @@
 -- `table_seed::fill_high` meets its contract. The loop's invariant: the cells of the high labels below k are set, and no
--- others; the number of labels left falls.
-use Prim.Native.Nat.{◌-◌, ◌≤◌}
+-- others.
 use lib.ListN.{length}
 use mathlib.Core.Path.{◌≡◌}
 use Rattle.table_seed.specs.Seeds.{CellsSet}
@@ -8,7 +7,4 @@ use Rattle.model.specs.Tables.{bits, is_high, place_s}
 use Rattle.table_seed.proofs.fill_high.Given as goal
 
 abbrev pub invariant-loop-k : goal.invariant-loop-k
-invariant-loop-k l = (length l.table ≡ length l.initial.table) × (l.k ≤ 64) × CellsSet (is_high l.policy) place_s l.k (bits l.initial.table) (bits l.table)
-
-abbrev pub decreases-loop-k : goal.decreases-loop-k
-decreases-loop-k l = 64 - l.k
+invariant-loop-k l = (length l.table ≡ length l.initial.table) × CellsSet (is_high l.policy) place_s l.k (bits l.initial.table) (bits l.table)

@@ -1,11 +1,13 @@
 -- `table_seed::fill_nesting` meets its contract. The labels found are the nearest from each number on upwards.
-use Rattle.enclosures.specs.Laws.{labels-are, notes-root}
+use Rattle.enclosures.specs.Laws.{nearests-are, notes-root}
 use Rattle.table_seed.proofs.fill_nesting.Goals as goal
 
 pub enclose-requires : goal.enclose-requires
-enclose-requires c =
-    let pre = c.requires in notes-root pre.valid pre.policy_len
+enclose-requires c = record { valid = c.requires.valid; noting = rw c.notes-notes.ensures (notes-root _ c.args.policy.now c.requires.valid) }
 
-pub fill_nesting_by_labels-requires : goal.fill_nesting_by_labels-requires
-fill_nesting_by_labels-requires c =
-    let pre = c.requires in record { valid = pre.valid; table_len = pre.table_len; nearests = labels-are c.args.policy.now _ (notes-root {policy = c.args.policy.now} pre.valid pre.policy_len).room c.enclose.ensures.0 }
+pub fill_nesting_by-requires : goal.fill_nesting_by-requires
+fill_nesting_by-requires c = record {
+  valid = c.requires.valid;
+  table_len = c.requires.table_len;
+  nearests = nearests-are c.args.policy.now _ (rw c.notes-notes.ensures (notes-root _ c.args.policy.now c.requires.valid).passable.room) c.enclose.ensures;
+}

@@ -1,23 +1,17 @@
 -- The goals of `table_words::store`; the argument stands in Invariants.
-use lib.ListN.{length}
-use mathlib.Core.Path.{◌∙◌, refl}
-use native.Mathlib.Omega.{arith}
-use Rattle.table_words.specs.Words.{Stored, stored, stored-none}
+use Rattle.std.proofs.Common.{◌∙◌, arith}
+use Rattle.table_words.specs.Words.{Stored, stored, stored-narrow, stored-none}
 use Rattle.table_words.proofs.store.Goals as goal
 
 pub loop-i-init : goal.loop-i-init
-loop-i-init c = (refl, omega arith, stored-none _ _)
-
-pub write_word-requires : goal.write_word-requires
-write_word-requires c =
-    let l = c.loop-i in record { i_in_bounds = omega arith; bytes_len = l.invariant.0 ∙ c.requires; stored = l.invariant.2 }
+loop-i-init c = (c.requires, stored-none _ _)
 
 pub loop-i-preserved : goal.loop-i-preserved
 unfolding Stored
-loop-i-preserved c =
-    let l = c.loop-i in let p = c.write_word in (p.auto.bytes ∙ l.invariant.0, omega arith, λ j h. p.ensures j (omega arith))
+loop-i-preserved c = let p = c.write_word in (p.auto.table ∙ c.loop-i.invariant.0, λ j h. p.ensures j (omega arith))
 
 pub returns : goal.returns
 unfolding Stored
 returns c =
-    let l = c.loop-i in stored (length c.args.words.now) c.args.words.now l.bytes refl (l.invariant.0 ∙ c.requires) (λ i h. l.invariant.2 i (omega arith))
+    let w = c.args.words.now in let l = c.loop-i in let s : Stored w 1544 l.table = λ i h. l.invariant.1 i (omega arith) in
+    record { same_bits = stored 193 w l.table c.told-words l.invariant.0 s; narrow = stored-narrow 1544 w l.table l.invariant.0 s }

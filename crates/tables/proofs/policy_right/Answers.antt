@@ -1,23 +1,21 @@
--- The goals of `tables::policy_right`; the argument stands in Invariants.
-use borrow.Author.Count.{below_more}
-use native.Mathlib.Omega.{arith}
-use Rattle.tables.specs.Loops.{policy-first, policy-good, policy-long, policy-over}
+-- `tables::policy_right` meets its contract: the length, then the class of the environment, then every class.
+use Rattle.std.proofs.Common.{◌≡◌, ℕ, ◌<◌, ◌≤◌, List, get_or, ne_eqb, ◌∙◌, ap, sym, rules, tests}
+use Rattle.std.proofs.lemmas.Iterator.{YieldsList-from_slice, cases_from_all}
+use Rattle.tables.specs.Loops.{policy-classes, policy-first, policy-long}
 use Rattle.tables.proofs.policy_right.Goals as goal
 
-pub returns-then-policy-ne64 : goal.returns-then-policy-ne64
-returns-then-policy-ne64 c = policy-long _ c.if-policy-ne64.true
+pub returns-in_default : goal.returns-in_default
+returns-in_default c = policy-long _ (search rules)
 
-pub returns-then-policy-ne0 : goal.returns-then-policy-ne0
-returns-then-policy-ne0 c = policy-first _ c.if-policy-ne0.true
+pub returns-then-policy-eq0 : goal.returns-then-policy-eq0
+returns-then-policy-eq0 c =
+    let whole = c.in-Some.ensures.cases in
+    let xs = c.in-Some.policy.now in
+    let e : get_or c.args.policy.now 0 0 ≡ 0 = ap (λ (s : List ℕ). get_or s 0 0) (sym whole.same) ∙ c.if-policy-eq0.true in
+    policy-classes _ _ whole.long e
+    (cases_from_all _ _ _ (λ x. x ≤ 2) (λ x. 2 < x) c.all.ensures.ran (YieldsList-from_slice c.args.policy.now (c.iter.ensures.rest ∙ whole.same)) (λ x q k. search (rules, tests)) (λ x q k. search (rules, tests)))
 
-pub loop-k-init : goal.loop-k-init
-loop-k-init c = (omega arith, λ k l. absurd (omega arith))
-
-pub returns-then-policy-k-gt2 : goal.returns-then-policy-k-gt2
-returns-then-policy-k-gt2 c = policy-over _ c.loop-k.k (omega arith) (omega (arith, c.if-policy-k-gt2.true))
-
-pub loop-k-preserved : goal.loop-k-preserved
-loop-k-preserved c = (omega arith, below_more _ _ c.loop-k.invariant.1 c.if-policy-k-gt2.false)
-
-pub returns : goal.returns
-returns c = policy-good _ c.if-policy-ne64.false c.if-policy-ne0.false (λ k l. c.loop-k.invariant.1 k (omega arith))
+pub returns-else-policy-eq0 : goal.returns-else-policy-eq0
+returns-else-policy-eq0 c =
+    let whole = c.in-Some.ensures.cases in
+    ne_eqb _ _ c.if-policy-eq0.false ∙ policy-first _ (λ e. c.if-policy-eq0.false (ap (λ (s : List ℕ). get_or s 0 0) whole.same ∙ e))

@@ -1,13 +1,19 @@
 -- `tables::table_right` meets its contract: the length, then column 0 of I, then row 0 of H.
-use mathlib.Core.Path.{◌∙◌, sym}
-use Rattle.tables.specs.Loops.{table-first, table-long, table-second}
+use Rattle.std.proofs.Common.{◌≡◌, ℕ, List, true, false, ◌∙◌, ap, sym, rules}
+use Rattle.tables.specs.Loops.{Clear, table-first, table-long, table-second}
 use Rattle.tables.proofs.table_right.Goals as goal
 
-pub returns-then-size-ne-TABLE_BYTES : goal.returns-then-size-ne-TABLE_BYTES
-returns-then-size-ne-TABLE_BYTES c = table-long _ c.if-size-ne-TABLE_BYTES.true
+pub returns-in_default : goal.returns-in_default
+returns-in_default c = table-long _ (search rules)
 
-pub returns-then-not-clear_bits : goal.returns-then-not-clear_bits
-returns-then-not-clear_bits c = table-first _ c.if-size-ne-TABLE_BYTES.false (sym c.clear_bits.ensures ∙ c.if-not-clear_bits.true)
+pub returns-then-clear_bits : goal.returns-then-clear_bits
+returns-then-clear_bits c =
+    let whole = c.in-Some.ensures.cases in
+    let e : Clear c.args.table.now 0 128 ≡ true = ap (λ (t : List ℕ). Clear t 0 128) (sym whole.same) ∙ sym c.clear_bits.ensures ∙ c.if-clear_bits.true in
+    c.clear_bits-then-clear_bits.ensures ∙ ap (λ (t : List ℕ). Clear t 8192 1) whole.same ∙ table-second _ whole.long e
 
-pub returns : goal.returns
-returns c = c.clear_bits-2.ensures ∙ table-second _ c.if-size-ne-TABLE_BYTES.false (sym c.clear_bits.ensures ∙ c.if-not-clear_bits.false)
+pub returns-else-clear_bits : goal.returns-else-clear_bits
+returns-else-clear_bits c =
+    let whole = c.in-Some.ensures.cases in
+    let e : Clear c.args.table.now 0 128 ≡ false = ap (λ (t : List ℕ). Clear t 0 128) (sym whole.same) ∙ sym c.clear_bits.ensures ∙ c.if-clear_bits.false in
+    c.if-clear_bits.false ∙ table-first _ whole.long e

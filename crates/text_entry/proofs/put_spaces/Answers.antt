@@ -1,16 +1,12 @@
--- The goals of `text_entry::put_spaces`; the argument stands in Invariants.
-use lib.ListN.{length-set}
-use mathlib.Core.Path.{refl}
-use native.Mathlib.Omega.{arith}
-use Rattle.text_put.specs.Laws.{splice-nil}
-use Rattle.text_form.specs.Laws.Putting.{spaces-done, spaces-next}
+-- `text_entry::put_spaces` meets its contract: the part that is filled is as long as the spaces.
+use Rattle.std.proofs.Common.{◌≡◌, ◌∙◌, ◌+◌, ◌-◌, ap, arith, drop, length, length-drop, length-take-le, replicate, sym, take}
+use Rattle.std.proofs.lemmas.List.{length-replicate}
+use Rattle.text_put.specs.Laws.{put-part}
 use Rattle.text_entry.proofs.put_spaces.Goals as goal
 
-pub loop-i-init : goal.loop-i-init
-loop-i-init c = (omega arith, splice-nil _ _, refl)
-
-pub loop-i-preserved : goal.loop-i-preserved
-loop-i-preserved c = (omega arith, spaces-next _ _ _ _ (omega arith) c.loop-i.invariant.2 c.loop-i.invariant.1, simp length-set c.loop-i.invariant.2)
-
 pub returns : goal.returns
-returns c = spaces-done _ _ _ _ _ c.loop-i.invariant.0 c.loop-i-test.false c.loop-i.invariant.1
+returns c =
+    let at = c.args.at in
+    let n = c.args.n in
+    let k : length (take (at + n - at) (drop at c.args.text.now)) ≡ n = length-take-le _ _ (omega (arith, length-drop at c.args.text.now)) ∙ omega arith in
+    put-part _ _ _ (sym (length-replicate _ _)) (c.fill.ensures.after (λ y e. e) ∙ ap (λ m. replicate m 32) k)

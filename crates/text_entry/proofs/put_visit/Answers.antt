@@ -9,8 +9,8 @@ use Rattle.text_entry.proofs.put_visit.Goals as goal
 
 pub put_entry-requires : goal.put_entry-requires
 put_entry-requires c =
-    let args = c.args in let pre = c.requires in let record-at = c.record_at-r in (pre.2, omega (arith, pre.3, ap length (visit-is args.listed (records args.it.now) (records args.sheet.now) args.v record-at.result c.record_at-s.result (at-is pre.0 _ _ record-at.ensures) (at-is pre.1 _ _ c.record_at-s.ensures))))
+    let args = c.args in let pre = c.requires in let record-at = c.record_at-r in record { shallow = pre.shallow; fits = omega (arith, pre.fits, ap length (visit-is args.listed (records args.it.now) (records args.sheet.now) args.v record-at.result c.record_at-s.result (at-is pre.whole _ _ record-at.ensures) (at-is pre.sheet _ _ c.record_at-s.ensures))) }
 
 pub returns : goal.returns
 returns c =
-    let pre = c.requires in let record-at = c.record_at-r in let record-at2 = c.record_at-s in put_as (visit-is _ _ _ _ record-at.result record-at2.result (at-is pre.0 _ _ record-at.ensures) (at-is pre.1 _ _ record-at2.ensures)) c.put_entry.ensures
+    let pre = c.requires in let record-at = c.record_at-r in let record-at2 = c.record_at-s in put_as (visit-is _ _ _ _ record-at.result record-at2.result (at-is pre.whole _ _ record-at.ensures) (at-is pre.sheet _ _ record-at2.ensures)) c.put_entry.ensures

@@ -4,7 +4,7 @@ use borrow.Author.Tests.{eq-eqb, eqb-false, eqb-true, ne_eqb, not-true}
 use Rattle.std.specs.Prelude.{eqb, length, Bool, false, not, true, List, [], ◌∷◌, ◌≢◌, ◌⊎◌, ◌≡◌, refl}
 use Rattle.std.proofs.Common.{true≢false, ◌∙◌, ap, sym, arith}
 use Rattle.std.proofs.Math.Logic.{inl, inr}
-use Rattle.std.proofs.Math.Option.{Option, none, some}
+use Rattle.std.specs.Prelude.{Option, None, Some}
 use Rattle.std.proofs.Math.Decide.{dec_le, ℕ_discrete}
 use Rattle.model.specs.Finite.{one_if, lowest, tally}
 use Rattle.model.proofs.Laws.Bytes.{valid-wf}
@@ -73,8 +73,8 @@ next-child its p after = go (lowest (is_child its p) (suc after) (length its - a
     small j k h (no l) = absurd (not-child its p j (h (omega arith)) k)
 
     go : (o : Option ℕ) → lowest (is_child its p) (suc after) (length its - after) ≡ o → NextChild its p after (or_zero o)
-    go none q = last refl (λ j k. small j k (λ l. lowest-none (is_child its p) (suc after) (length its - after) q j l (omega (arith, alive-in its j k.alive))) (dec_le j after))
-    go (some c) q =
+    go None q = last refl (λ j k. small j k (λ l. lowest-none (is_child its p) (suc after) (length its - after) q j l (omega (arith, alive-in its j k.alive))) (dec_le j after))
+    go (Some c) q =
         let w = lowest-some (is_child its p) (suc after) (length its - after) c q in
         found (child-of its p c w.2) w.0 (omega (arith, w.0, w.1)) (λ j k l. small j k (λ h. w.3 j h l) (dec_le j after))
 

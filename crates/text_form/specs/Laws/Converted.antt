@@ -3,7 +3,7 @@
 -- an empty one. Then the laws of the function that fills the bytes: by the reader's answer.
 use Rattle.std.specs.Prelude.{◌*◌, ◌≤◌, ℕ, Bool, false, true, List, ◌≡◌, refl}
 use Rattle.std.proofs.Math.ListN.{length}
-use Rattle.std.proofs.Math.Option.{Option, none, some}
+use Rattle.std.specs.Prelude.{Option, None, Some, Ok, Err}
 use Rattle.std.proofs.Common.{◌∙◌, arith}
 use Rattle.std.proofs.Math.Path.{ap, sym}
 use Rattle.model.proofs.Laws.Bytes.{length-encode}
@@ -14,7 +14,8 @@ use Rattle.text_form.specs.Laws.Identity.{read-valid}
 use Rattle.text_form.specs.Laws.Nesting.{length-placed}
 use Rattle.text_form.specs.Laws.Room.{read_fits}
 use Rattle.text_form.specs.Reading.{bytes_of, bytes_or, converted, length_told, lines_answer, no_itinerary, none_above, placed, read_after, read_answer, read_by, read_into, room_in, scan, scan_answer}
-use Rattle.text_form.specs.declared.TextRead.TheVariants.{Fault, Records}
+use Rattle.text_form.specs.declared.Cause.{Cause}
+use Rattle.text_form.specs.declared.Fault.{Fault}
 
 pub none-refused : validity no_itinerary ≡ refuse 1 0
 unfolding validity form size_right no_itinerary need and_then
@@ -25,41 +26,41 @@ pub unread-refused : (text : List ℕ) → validity (converted false text) ≡ r
 unfolding converted
 unread-refused text = none-refused
 
-pub fault-refused : (text : List ℕ) (cause : ℕ) → (scan 1024 text).fault ≡ some cause → validity (converted true text) ≡ refuse 1 0
+pub fault-refused : (text : List ℕ) (c : Cause) → (scan 1024 text).fault ≡ Some c → validity (converted true text) ≡ refuse 1 0
 unfolding converted bytes_or
-fault-refused text cause e = rw e none-refused
+fault-refused text c e = rw e none-refused
 
 -- a text without one
-pub read-converted : (text : List ℕ) → (scan 1024 text).fault ≡ none → converted true text ≡ bytes_of text
+pub read-converted : (text : List ℕ) → (scan 1024 text).fault ≡ None → converted true text ≡ bytes_of text
 unfolding converted bytes_or
 read-converted text e = rw e
 
-pub read-passes : (text : List ℕ) → (scan 1024 text).fault ≡ none → validity (converted true text) ≡ pass
+pub read-passes : (text : List ℕ) → (scan 1024 text).fault ≡ None → validity (converted true text) ≡ pass
 unfolding bytes_of
 read-passes text e = ap validity (read-converted text e) ∙ read-valid 1024 text (omega arith)
 
 -- only a text that is read, and without a fault, passes as an itinerary
-pub passes-read : (readable : Bool) (text : List ℕ) → validity (converted readable text) ≡ pass → (readable ≡ true) × ((scan 1024 text).fault ≡ none)
+pub passes-read : (readable : Bool) (text : List ℕ) → validity (converted readable text) ≡ pass → (readable ≡ true) × ((scan 1024 text).fault ≡ None)
 passes-read false text v = let u : refuse 1 0 ≡ pass = sym (unread-refused text) ∙ v in let w : ◌≡◌ {A = ℕ} 0 1 = cc in absurd (omega arith)
 passes-read true text v = go (scan 1024 text).fault refl
   where
-    go : (f : Option ℕ) → (scan 1024 text).fault ≡ f → (true ≡ true) × ((scan 1024 text).fault ≡ none)
-    go none e = (refl, e)
-    go (some cause) e = let u : refuse 1 0 ≡ pass = sym (fault-refused text cause e) ∙ v in let w : ◌≡◌ {A = ℕ} 0 1 = cc in absurd (omega arith)
+    go : (f : Option Cause) → (scan 1024 text).fault ≡ f → (true ≡ true) × ((scan 1024 text).fault ≡ None)
+    go None e = (refl, e)
+    go (Some c) e = let u : refuse 1 0 ≡ pass = sym (fault-refused text c e) ∙ v in let w : ◌≡◌ {A = ℕ} 0 1 = cc in absurd (omega arith)
 
 -- what the reader's answer tells of the scan
-records-none : (n k : ℕ) (b : Bool) (f : Option ℕ) → Records k ≡ length_told b (read_by n f) → (f ≡ none) × (n ≡ k)
+records-none : (n k : ℕ) (b : Bool) (f : Option Cause) → Ok k ≡ length_told b (read_by n f) → (f ≡ None) × (n ≡ k)
 unfolding length_told read_by
-records-none n k true none e = (refl, cc)
-records-none n k false none e = (refl, cc)
-records-none n k true (some cause) e = let w : ◌≡◌ {A = ℕ} 0 1 = cc in absurd (omega arith)
-records-none n k false (some cause) e = let w : ◌≡◌ {A = ℕ} 0 1 = cc in absurd (omega arith)
+records-none n k true None e = (refl, cc)
+records-none n k false None e = (refl, cc)
+records-none n k true (Some c) e = let w : ◌≡◌ {A = ℕ} 0 1 = cc in absurd (omega arith)
+records-none n k false (Some c) e = let w : ◌≡◌ {A = ℕ} 0 1 = cc in absurd (omega arith)
 
-fault-some : (n l c : ℕ) (b : Bool) (f : Option ℕ) → Fault l c ≡ length_told b (read_by n f) → (cause : ℕ) × (f ≡ some cause)
+fault-some : (n : ℕ) (x : Fault) (b : Bool) (f : Option Cause) → Err x ≡ length_told b (read_by n f) → (c : Cause) × (f ≡ Some c)
 unfolding length_told read_by
-fault-some n l c true none e = let w : ◌≡◌ {A = ℕ} 0 1 = cc in absurd (omega arith)
-fault-some n l c false none e = let w : ◌≡◌ {A = ℕ} 0 1 = cc in absurd (omega arith)
-fault-some n l c b (some cause) e = (cause, refl)
+fault-some n x true None e = let w : ◌≡◌ {A = ℕ} 0 1 = cc in absurd (omega arith)
+fault-some n x false None e = let w : ◌≡◌ {A = ℕ} 0 1 = cc in absurd (omega arith)
+fault-some n x b (Some c) e = (c, refl)
 
 none-length : length no_itinerary ≡ 1
 unfolding no_itinerary
@@ -85,21 +86,21 @@ module _ (readable : Bool) (text it : List ℕ) (long : length it ≡ 8192) (it'
   same-scan : scan (room_in it) text ≡ scan 1024 text
   same-scan = ap (λ n. scan n text) room
 
-  pub convert-read : (k : ℕ) → readable ≡ true → Records k ≡ read_answer text it → it' ≡ read_after text it → FilledWith (converted readable text) it it' (8 * k)
+  pub convert-read : (k : ℕ) → readable ≡ true → Ok k ≡ read_answer text it → it' ≡ read_after text it → FilledWith (converted readable text) it it' (8 * k)
   unfolding read_answer lines_answer scan_answer read_after read_into bytes_of placed
   convert-read k b e h =
       let whole = records-none _ k _ _ e in
-      let f : (scan 1024 text).fault ≡ none = sym (ap (λ x. x.fault) same-scan) ∙ whole.0 in
+      let f : (scan 1024 text).fault ≡ None = sym (ap (λ x. x.fault) same-scan) ∙ whole.0 in
       let w : converted readable text ≡ bytes_of text = ap (λ x. converted x text) b ∙ read-converted text f in
       let n = ap (λ x. length x.lines) same-scan in
       let m = length-placed 1 none_above (scan 1024 text).lines in
       (sym (ap length w ∙ length-encode _ ∙ omega (arith, n, m, whole.1)), h ∙ rw (same-scan, f) (ap (λ x. over x it) (sym w)), omega (arith, read_fits text it k e))
 
-  pub convert-fault : (r l c : ℕ) (it₁ : List ℕ) → readable ≡ true → Fault l c ≡ read_answer text it → it₁ ≡ read_after text it → (r ≡ length no_itinerary) × (it' ≡ over no_itinerary it₁) →
+  pub convert-fault : (r : ℕ) (x : Fault) (it₁ : List ℕ) → readable ≡ true → Err x ≡ read_answer text it → it₁ ≡ read_after text it → (r ≡ length no_itinerary) × (it' ≡ over no_itinerary it₁) →
       FilledWith (converted readable text) it it' r
   unfolding read_answer lines_answer scan_answer read_after read_into converted bytes_or
-  convert-fault r l c it₁ b e g h =
-      let faulty = fault-some _ l c _ _ e in
-      let f : (scan 1024 text).fault ≡ some faulty.0 = sym (ap (λ x. x.fault) same-scan) ∙ faulty.1 in
+  convert-fault r x it₁ b e g h =
+      let faulty = fault-some _ x _ _ e in
+      let f : (scan 1024 text).fault ≡ Some faulty.0 = sym (ap (λ x. x.fault) same-scan) ∙ faulty.1 in
       let same : it₁ ≡ it = g ∙ rw faulty.1 in
       none_filled _ it it' r (rw (b, f)) long kept (h.0, h.1 ∙ ap (over no_itinerary) same)

@@ -1,22 +1,24 @@
 -- A text that is read without a fault is the text of its lines: reading loses nothing, and writing gives it back.
 use Rattle.std.specs.Prelude.{◌%◌, ◌*◌, ◌+◌, ◌-◌, ◌/◌, ◌<◌, ◌≤◌, suc, zero, ℕ, eqb, leb, drop, length, replicate, Bool, false, true, List, [], ◌++◌, ◌∷◌, ◌≡◌, refl}
-use Rattle.std.proofs.Common.{eqb-true, leb-true, length-drop, drop-cons, drop-drop, true≢false, ◌∙◌, ap, sym, arith}
-use Rattle.std.proofs.Math.Option.{none, some}
+use Rattle.std.proofs.Common.{eqb-true, leb-true, length-drop, drop-cons, drop-drop, true≢false, ◌∙◌, ap, sym, subst, arith}
+use Rattle.std.specs.Prelude.{Option, None, Some, Result, Ok, Err}
 use Rattle.model.proofs.Laws.Bytes.{records-encode}
 use Rattle.model.proofs.Laws.Booleans.{and_right}
 use Rattle.model.specs.Listing.{digits_in}
 use Rattle.model.specs.Records.{byte, encode, records}
 use Rattle.model.specs.Validity.{label_in}
-use Rattle.text_form.specs.Laws.Lines.{demand-good, digits_2, digits_3, ended-good, line-parts, named-good, number-some, scan-bad, scan_good, scan-nested, tail_bytes, worded-by, worded-good}
+use Rattle.text_form.specs.Laws.Lines.{demand-good, digits_2, digits_3, ended-good, line-parts, named-good, number-good, number-some, scan-bad, scan_good, scan-nested, tail_bytes, worded-by, worded-good}
 use Rattle.text_put.specs.Digits.{digits_1}
 use Rattle.text_form.specs.Laws.Nesting.{walk-placed}
 use Rattle.text_form.specs.Laws.Scanning.{digit-inside, digit_low, numeral-cases}
 use Rattle.text_form.specs.Lines.{kind_word, line_bytes, render}
-use Rattle.text_form.specs.Reading.{before, digit, ended, labelled, leading, line_read, named, number_cause, numeral, placed, scan, scan_from, spaces, starts, worded}
+use Rattle.text_form.specs.Reading.{before, digit, ended, labelled, leading, line_read, named, number_read, numeral, placed, scan, scan_from, spaces, starts, worded}
 use Rattle.text_form.specs.Writing.{text_of}
 use Rattle.text_form.specs.declared.Line.{Line}
 use Rattle.text_form.specs.declared.LineRead.{LineRead}
-use Rattle.text_form.specs.declared.LineRead.TheVariants.{Bad, Good}
+use Rattle.text_form.specs.declared.Cause.{Cause}
+use Rattle.text_form.specs.declared.Cause.TheVariants as cause
+use Rattle.text_form.specs.declared.Decimal.{Decimal}
 
 -- what is read is what stands there
 spaces-exact : (s : List ℕ) → replicate (spaces s) 32 ++ drop (spaces s) s ≡ s
@@ -52,21 +54,26 @@ first-2 s l = ap (λ x. byte s 0 ∷ x) (sym (drop-cons s 1 0 l)) ∙ first-1 s 
 first-3 : (s : List ℕ) → 2 < length s → byte s 0 ∷ byte s 1 ∷ byte s 2 ∷ drop 3 s ≡ s
 first-3 s l = ap (λ x. byte s 0 ∷ byte s 1 ∷ x) (sym (drop-cons s 2 0 l)) ∙ first-2 s (omega arith)
 
-numeral-exact : (s : List ℕ) → 1 ≤ (numeral s).width → digits_in 5 (numeral s).value ++ drop (numeral s).width s ≡ s
-unfolding numeral
-numeral-exact s =
-    numeral-cases (λ n. 1 ≤ n.width → digits_in 5 n.value ++ drop n.width s ≡ s) a b c
-    (λ p h. absurd (omega arith))
-    (λ p u h. rw (digits_1 0 (omega arith)) (ap (λ n. n ∷ drop 1 s) (sym u) ∙ first-1 s (digit-inside s 0 p)))
-    (λ p u q h.
+-- a number's digits and what stands after them, nothing where there is none
+unfoldable Stands : List ℕ → Option Decimal → Type 0
+Stands s None = Unit {0}
+Stands s (Some n) = digits_in 5 n.value ++ drop n.width s ≡ s
+
+numeral-stands : (s : List ℕ) → Stands s (numeral s)
+unfolding numeral Stands
+numeral-stands s =
+    numeral-cases (Stands s) a b c
+    (λ p. tt)
+    (λ p u. rw (digits_1 0 (omega arith)) (ap (λ n. n ∷ drop 1 s) (sym u) ∙ first-1 s (digit-inside s 0 p)))
+    (λ p u q.
     rw (digits_1 (a - 48) (omega (arith, digit-high a p)))
     (let e : 48 + (a - 48) ≡ a = omega (arith, digit_low a p) in rw e (first-1 s (digit-inside s 0 p))))
-    (λ p u q r h.
+    (λ p u q r.
     rw (digits_2 (10 * (a - 48) + (b - 48)) (omega (arith, digit_low a p)) (omega (arith, digit-high a p, digit-high b q)))
     (let e : 48 + (10 * (a - 48) + (b - 48)) / 10 ≡ a = omega (arith, digit_low a p, digit_low b q, digit-high b q) in
     let f : 48 + (10 * (a - 48) + (b - 48)) % 10 ≡ b = omega (arith, digit_low b q, digit-high b q) in
     rw (e, f) (first-2 s (digit-inside s 1 q))))
-    (λ p u q r h.
+    (λ p u q r.
     rw (digits_3 (100 * (a - 48) + (10 * (b - 48) + (c - 48))) (omega (arith, digit_low a p)) (omega (arith, digit-high a p, digit-high b q, digit-high c r)))
     (let e : 48 + (100 * (a - 48) + (10 * (b - 48) + (c - 48))) / 10 / 10 ≡ a = omega (arith, digit_low a p, digit_low b q, digit-high b q, digit_low c r, digit-high c r) in
     let f : 48 + (100 * (a - 48) + (10 * (b - 48) + (c - 48))) / 10 % 10 ≡ b = omega (arith, digit_low b q, digit-high b q, digit_low c r, digit-high c r) in
@@ -82,29 +89,32 @@ numeral-exact s =
     c : ℕ
     c = byte s 2
 
+numeral-exact : (s : List ℕ) {n : Decimal} → numeral s ≡ Some n → digits_in 5 n.value ++ drop n.width s ≡ s
+unfolding Stands
+numeral-exact s e = subst (λ o. Stands s o) e (numeral-stands s)
+
 -- what is left of a part is left of the whole
 left-same : (n : ℕ) (s : List ℕ) (left : ℕ) → left < length (drop n s) → drop (length (drop n s) - left) (drop n s) ≡ drop (length s - left) s
 left-same n s left l = let e : n + (length (drop n s) - left) ≡ length s - left = omega (arith, length-drop n s) in drop-drop (length (drop n s) - left) n s ∙ ap (λ k. drop k s) e
 
-ended-exact : (m : Line) (s : List ℕ) {l : Line} {left : ℕ} → ended m s ≡ Good l left → 10 ∷ drop (length s - left) s ≡ s
+ended-exact : (m : Line) (s : List ℕ) {l : Line} {left : ℕ} → ended m s ≡ Ok (record { line = l; left = left }) → 10 ∷ drop (length s - left) s ≡ s
 unfolding ended
 ended-exact m [] e = let u : ◌≡◌ {A = ℕ} 0 1 = cc in absurd (omega arith)
 ended-exact m (c ∷ s) {l} {left} e =
-    let g = demand-good (eqb c 10) _ (Good m (length s)) e in
+    let g = demand-good (eqb c 10) _ (Ok (record { line = m; left = length s })) e in
     let q = g.1 in
-    let v : length s ≡ left = cc in
+    let u : ◌≡◌ {A = LineRead} (record { line = m; left = length s }) (record { line = l; left = left }) = cc in
+    let v : length s ≡ left = ap (λ x. x.left) u in
     let w : suc (length s) - left ≡ 1 = omega arith in
     rw w (ap (λ x. x ∷ s) (sym (eqb-true c 10 g.0)))
 
-named-exact : (d k label : ℕ) (s : List ℕ) {l : Line} {left : ℕ} → named d k label s ≡ Good l left → 32 ∷ (digits_in 5 l.name ++ (10 ∷ drop (length s - left) s)) ≡ s
+named-exact : (d k label : ℕ) (s : List ℕ) {l : Line} {left : ℕ} → named d k label s ≡ Ok (record { line = l; left = left }) → 32 ∷ (digits_in 5 l.name ++ (10 ∷ drop (length s - left) s)) ≡ s
 unfolding named
 named-exact d k label s {l} {left} e =
-    let n = numeral (drop 1 s) in
     let z = demand-good (eqb (byte s 0) 32) _ _ e in
-    let a = z.1 in
-    let y = demand-good (eqb (number_cause 7 n (drop 1 s)) 0) _ _ a in
-    let b = y.1 in
-    let c = demand-good (leb n.value 63) 8 _ b in
+    let y = number-good (number_read cause.NoName (drop 1 s)) _ z.1 in
+    let n = y.0 in
+    let c = demand-good (leb n.value 63) cause.WrongName _ y.2 in
     let g = ended-good _ _ c.1 in
     let w : l.name ≡ n.value = sym (ap (λ x. x.name) g.0) in
     let p : left < length (drop 1 s) = omega (arith, g.1, length-drop n.width (drop 1 s)) in
@@ -112,7 +122,7 @@ named-exact d k label s {l} {left} e =
     ap (λ x. 32 ∷ (digits_in 5 x ++ (10 ∷ drop (length s - left) s))) w
     ∙ ap (λ x. 32 ∷ (digits_in 5 n.value ++ (10 ∷ x))) (sym q)
     ∙ ap (λ x. 32 ∷ (digits_in 5 n.value ++ x)) (ended-exact _ (drop n.width (drop 1 s)) c.1)
-    ∙ ap (λ x. 32 ∷ x) (numeral-exact (drop 1 s) (number-some 7 n (drop 1 s) (omega arith) (eqb-true _ 0 y.0)))
+    ∙ ap (λ x. 32 ∷ x) (numeral-exact (drop 1 s) (number-some cause.NoName (drop 1 s) y.1))
     ∙ ap (λ x. x ∷ drop 1 s) (sym (eqb-true (byte s 0) 32 z.0))
     ∙ first-1 s (omega (arith, p, length-drop 1 s))
 
@@ -123,13 +133,12 @@ pub record Labelled (d k : ℕ) (s : List ℕ) (l : Line) (left : ℕ) : Type 0 
   pub fewer : left < length s
   pub bytes : digits_in 5 l.label ++ (32 ∷ (digits_in 5 l.name ++ (10 ∷ drop (length s - left) s))) ≡ s
 
-labelled-exact : (d k : ℕ) (s : List ℕ) {l : Line} {left : ℕ} → labelled d k s ≡ Good l left → Labelled d k s l left
+labelled-exact : (d k : ℕ) (s : List ℕ) {l : Line} {left : ℕ} → labelled d k s ≡ Ok (record { line = l; left = left }) → Labelled d k s l left
 unfolding labelled
 labelled-exact d k s {l} {left} e =
-    let n = numeral s in
-    let z = demand-good (eqb (number_cause 5 n s) 0) _ _ e in
-    let a = z.1 in
-    let b = demand-good (label_in (eqb k 1) n.value) 6 _ a in
+    let z = number-good (number_read cause.NoLabel s) _ e in
+    let n = z.0 in
+    let b = demand-good (label_in (eqb k 1) n.value) cause.WrongLabel _ z.2 in
     let g = named-good d k n.value _ b.1 in
     record {
       depth = g.0;
@@ -139,11 +148,11 @@ labelled-exact d k s {l} {left} e =
           ap (λ x. digits_in 5 x ++ (32 ∷ (digits_in 5 l.name ++ (10 ∷ drop (length s - left) s)))) g.2
           ∙ ap (λ x. digits_in 5 n.value ++ (32 ∷ (digits_in 5 l.name ++ (10 ∷ x)))) (sym (left-same n.width s left g.4))
           ∙ ap (λ x. digits_in 5 n.value ++ x) (named-exact d k n.value (drop n.width s) b.1)
-          ∙ numeral-exact s (number-some 5 n s (omega arith) (eqb-true _ 0 z.0));
+          ∙ numeral-exact s (number-some cause.NoLabel s z.1);
     }
 
 -- the same from the kind's word on
-worded-exact : (d : ℕ) (s : List ℕ) {l : Line} {left : ℕ} → worded d s ≡ Good l left → (l.depth ≡ d) × (tail_bytes l (drop (length s - left) s) ≡ s)
+worded-exact : (d : ℕ) (s : List ℕ) {l : Line} {left : ℕ} → worded d s ≡ Ok (record { line = l; left = left }) → (l.depth ≡ d) × (tail_bytes l (drop (length s - left) s) ≡ s)
 unfolding tail_bytes
 worded-exact d s {l} {left} e =
     let b = worded-by d s e in
@@ -157,7 +166,7 @@ worded-exact d s {l} {left} e =
     )
 
 -- a line that is read is the line's bytes
-line-exact : (d : ℕ) (s : List ℕ) {l : Line} {left : ℕ} → line_read d s ≡ Good l left → line_bytes l ++ drop (length s - left) s ≡ s
+line-exact : (d : ℕ) (s : List ℕ) {l : Line} {left : ℕ} → line_read d s ≡ Ok (record { line = l; left = left }) → line_bytes l ++ drop (length s - left) s ≡ s
 unfolding line_read
 line-exact d s {l} {left} e =
     let n = spaces s in
@@ -174,25 +183,25 @@ line-exact d s {l} {left} e =
     ∙ spaces-exact s
 
 -- a text that is read without a fault is the text of its lines
-pub scan-exact : (room d : ℕ) (s : List ℕ) → (scan_from room d s).fault ≡ none → render (scan_from room d s).lines ≡ s
+pub scan-exact : (room d : ℕ) (s : List ℕ) → (scan_from room d s).fault ≡ None → render (scan_from room d s).lines ≡ s
 unfolding scan_from before render
 scan-exact zero d [] e = refl
 scan-exact zero d (c ∷ s) e = let u : ◌≡◌ {A = ℕ} 0 1 = cc in absurd (omega arith)
 scan-exact (suc room) d [] e = refl
 scan-exact (suc room) d (c ∷ s) e = go (line_read d (c ∷ s)) refl (scan-exact room)
   where
-    go : (x : LineRead) → line_read d (c ∷ s) ≡ x → ((d : ℕ) (s : List ℕ) → (scan_from room d s).fault ≡ none → render (scan_from room d s).lines ≡ s) → render (scan_from (suc room) d (c ∷ s)).lines ≡ c ∷ s
-    go (Good l left) q ih =
-        let g = scan_good room d (c ∷ s) l left q in
-        rw g (ap (λ x. line_bytes l ++ x) (ih (suc l.depth) (drop (suc (length s) - left) (c ∷ s)) (sym (ap (λ x. x.fault) g) ∙ e)) ∙ line-exact d (c ∷ s) q)
-    go (Bad cause) q ih =
-        let g = scan-bad room d (c ∷ s) cause (λ p. let u : ◌≡◌ {A = ℕ} 0 1 = cc in absurd (omega arith)) q in
-        let h : some cause ≡ none = sym (ap (λ x. x.fault) g) ∙ e in
+    go : (x : Result LineRead Cause) → line_read d (c ∷ s) ≡ x → ((d : ℕ) (s : List ℕ) → (scan_from room d s).fault ≡ None → render (scan_from room d s).lines ≡ s) → render (scan_from (suc room) d (c ∷ s)).lines ≡ c ∷ s
+    go (Ok y) q ih =
+        let g = scan_good room d (c ∷ s) y.line y.left q in
+        rw g (ap (λ x. line_bytes y.line ++ x) (ih (suc y.line.depth) (drop (suc (length s) - y.left) (c ∷ s)) (sym (ap (λ x. x.fault) g) ∙ e)) ∙ line-exact d (c ∷ s) {l = y.line} {left = y.left} q)
+    go (Err y) q ih =
+        let g = scan-bad room d (c ∷ s) y (λ p. let u : ◌≡◌ {A = ℕ} 0 1 = cc in absurd (omega arith)) q in
+        let h : Some y ≡ None = sym (ap (λ x. x.fault) g) ∙ e in
         let u : ◌≡◌ {A = ℕ} 0 1 = cc in
         absurd (omega arith)
 
 -- text to bytes to text is the identity on every text that is read without a fault
-pub read-written : (room : ℕ) (text : List ℕ) → room ≤ 1024 → (scan room text).fault ≡ none → text_of (records (encode (placed (scan room text).lines))) ≡ text
+pub read-written : (room : ℕ) (text : List ℕ) → room ≤ 1024 → (scan room text).fault ≡ None → text_of (records (encode (placed (scan room text).lines))) ≡ text
 unfolding scan text_of
 read-written room text few e =
     let w = scan-nested room 0 text in

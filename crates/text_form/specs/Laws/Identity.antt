@@ -5,7 +5,7 @@ use Rattle.std.proofs.Common.{le-leb, leb-true, get_or-set_other, get_or-set_sam
 use Rattle.std.specs.Prelude.{leb, get_or, set, Bool, false, true, List, [], ◌∷◌, map, ◌≢◌, ◌≡◌}
 use Rattle.std.proofs.Math.ListN.{length, length-map}
 use Rattle.std.proofs.Math.Seq.{set_out}
-use Rattle.std.proofs.Math.Option.{Option, none, some}
+use Rattle.std.specs.Prelude.{Option, None, Some, Ok}
 use Rattle.std.proofs.Math.Path.{ap, refl}
 use Rattle.std.proofs.Math.Decide.{dec_lt, ℕ_discrete}
 use Rattle.model.specs.Finite.{lowest}
@@ -24,10 +24,8 @@ use Rattle.text_form.specs.Laws.Lines.{scan-nested, scan-render}
 use Rattle.text_form.specs.Laws.Nesting.{Nested, Right, cons, length-placed, nil, none-zero, walk-next, walk-placed}
 use Rattle.text_form.specs.Lines.{render}
 use Rattle.text_form.specs.Reading.{bytes_of, length_told, lines_answer, none_above, placed, placed_from, read_after, read_answer, read_by, read_into, record_of, room_in, scan, scan_answer}
-use Rattle.text_form.specs.Writing.{child_after, child_or, fits, is_child, line_at, next_from, or_zero, over_if, text_of, told, told_after, walk, walk_from, write_after, write_answer}
+use Rattle.text_form.specs.Writing.{Length, child_after, child_or, fits, is_child, line_at, next_from, or_zero, over_if, text_of, told, told_after, walk, walk_from, write_after, write_answer}
 use Rattle.text_form.specs.declared.Line.{Line}
-use Rattle.text_form.specs.declared.TextRead.TheVariants.{Records}
-use Rattle.text_form.specs.declared.TextWritten.TheVariants.{Length}
 use Rattle.text_form.specs.declared.Visit.{Visit}
 
 -- a record that is visited is none that is gone, and stands no deeper than d
@@ -40,8 +38,8 @@ unfolding child_after or_zero is_child
 child-alive its p after j e z = go (lowest (is_child its p) (suc after) (length its - after)) refl
   where
     go : (o : Option ℕ) → lowest (is_child its p) (suc after) (length its - after) ≡ o → (at its j).kind ≢ 0
-    go none q = absurd (z (sym e ∙ ap or_zero q))
-    go (some k) q =
+    go None q = absurd (z (sym e ∙ ap or_zero q))
+    go (Some k) q =
         let u : k ≡ j = sym (ap or_zero q) ∙ e in
         rw (← u) (eqb-false _ _ (not-true _ (and_left _ _ (lowest-some (is_child its p) (suc after) (length its - after) k q).2)))
 
@@ -197,7 +195,7 @@ module _ (s : List ℕ) (v : validity s ≡ pass) where
   written-nested = let w = walk-nested (records s) (valid-wf s v) (length (records s)) 0 0 in (w.0, rw length-map (omega (arith, w.1, length-records s, valid-count s v)))
 
   -- what is written is read, to its end
-  pub accepted : scan 1024 (text_of (records s)) ≡ record { lines = map (line_at (records s)) (walk (records s)); fault = none }
+  pub accepted : scan 1024 (text_of (records s)) ≡ record { lines = map (line_at (records s)) (walk (records s)); fault = None }
   unfolding scan text_of
   accepted = scan-render 1024 0 _ written-nested.0 written-nested.1
 
@@ -219,14 +217,14 @@ unfolding placed
 written_count s v = sym (ap count (accepted-lines s v) ∙ count-encode _ ∙ length-placed 1 none_above _)
 
 -- a text's length is no fault
-records-told : (b : Bool) (n : ℕ) → length_told b (Records n) ≡ Records n
+records-told : (b : Bool) (n : ℕ) → length_told b (Ok n) ≡ Ok n
 unfolding length_told
 records-told true n = refl
 records-told false n = refl
 
 -- the same of the calls: what the writer wrote of a valid itinerary the reader takes, and the writer gives back
 pub calls-identity : (s it t : List ℕ) → validity s ≡ pass → length it ≡ 8192 → length (text_of (records s)) ≤ length t →
-    (read_answer (text_of (records s)) it ≡ Records (count (bytes_of (text_of (records s))))) × (read_after (text_of (records s)) it ≡ over (bytes_of (text_of (records s))) it)
+    (read_answer (text_of (records s)) it ≡ Ok (count (bytes_of (text_of (records s))))) × (read_after (text_of (records s)) it ≡ over (bytes_of (text_of (records s))) it)
     × (write_answer (bytes_of (text_of (records s))) t ≡ Length (length (text_of (records s)))) × (write_after (bytes_of (text_of (records s))) t ≡ over (text_of (records s)) t)
 unfolding read_answer lines_answer read_after read_by read_into scan_answer room_in write_answer write_after told told_after content fits over_if
 calls-identity s it t v l h =
@@ -234,4 +232,4 @@ calls-identity s it t v l h =
     let w : validity (bytes_of (text_of (records s))) ≡ pass = bytes-valid (text_of (records s)) in
     let i = identity s v in
     let r = le-leb (length (text_of (records s))) (length t) h in
-    (rw l (rw a (records-told _ _ ∙ ap Records (written_count s v))), rw l (rw a (ap (λ x. over x it) (sym (accepted-lines s v)))), rw w (rw (i, r)), rw w (rw (i, r)))
+    (rw l (rw a (records-told _ _ ∙ ap Ok (written_count s v))), rw l (rw a (ap (λ x. over x it) (sym (accepted-lines s v)))), rw w (rw (i, r)), rw w (rw (i, r)))

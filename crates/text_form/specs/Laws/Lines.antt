@@ -3,7 +3,7 @@ use Rattle.std.specs.Prelude.{◌%◌, ◌*◌, ◌+◌, ◌-◌, ◌/◌, ◌<�
 use Rattle.std.proofs.Common.{eq-eqb, le-leb, leb-true, ne_eqb, length-append, length-drop, drop_at, append_assoc, ◌∙◌, ap, sym, arith}
 use Rattle.std.proofs.lemmas.List.{length-replicate}
 use Rattle.std.proofs.Math.Seq.{drop-append_seam, get_or-append_seam}
-use Rattle.std.proofs.Math.Option.{none, some}
+use Rattle.std.specs.Prelude.{Option, None, Some, Result, Ok, Err}
 use Rattle.std.proofs.Math.Decide.{dec_le, ℕ_discrete}
 use Rattle.model.proofs.Laws.WellFormed.{label-in}
 use Rattle.model.specs.Listing.{digits_in, field}
@@ -12,10 +12,11 @@ use Rattle.model.specs.Validity.{label_in}
 use Rattle.text_put.specs.Digits.{digits_1, digits-high, digits_low}
 use Rattle.text_form.specs.Laws.Nesting.{Nested, Right, cons, nil}
 use Rattle.text_form.specs.Lines.{ambient_word, entry, in_word, indent, kind_word, line_bytes, open_word, out_word, render}
-use Rattle.text_form.specs.Reading.{before, cause_at, demand, digit, ended, labelled, leading, line_read, mark_bytes, named, number_cause, numeral, numeral_of, scan_from, spaces, starts, unknown_kind, unworded, worded}
+use Rattle.text_form.specs.Reading.{before, cause_at, demand, digit, digits_cause, ended, labelled, leading, line_read, mark_bytes, named, number_alone, number_read, numeral, numeral_of, scan_from, spaces, starts, unworded, with_number, worded}
 use Rattle.text_form.specs.declared.Line.{Line}
 use Rattle.text_form.specs.declared.LineRead.{LineRead}
-use Rattle.text_form.specs.declared.LineRead.TheVariants.{Bad, Good}
+use Rattle.text_form.specs.declared.Cause.{Cause}
+use Rattle.text_form.specs.declared.Cause.TheVariants as cause
 use Rattle.text_form.specs.declared.Decimal.{Decimal}
 
 -- the digits of a number, by how many there are
@@ -33,36 +34,36 @@ digit-is : (x : ℕ) → x ≤ 9 → digit (48 + x) ≡ true
 unfolding digit
 digit-is x h = rw (le-leb 48 (48 + x) (omega arith), le-leb (48 + x) 57 (omega arith))
 
-pub numeral-0 : (a b c : ℕ) → a ≡ 48 → numeral_of a b c ≡ record { value = 0; width = 1 }
+pub numeral-0 : (a b c : ℕ) → a ≡ 48 → numeral_of a b c ≡ Some (record { value = 0; width = 1 })
 unfolding numeral_of digit
 numeral-0 a b c e = rw e
 
 module _ (a b c : ℕ) (d : digit a ≡ true) (z : a ≢ 48) where
-  pub numeral-1 : digit b ≡ false → numeral_of a b c ≡ record { value = a - 48; width = 1 }
+  pub numeral-1 : digit b ≡ false → numeral_of a b c ≡ Some (record { value = a - 48; width = 1 })
   unfolding numeral_of
   numeral-1 e = rw (d, numeral_of) (rw (ne_eqb a 48 z) (rw e))
 
-  pub numeral-2 : digit b ≡ true → digit c ≡ false → numeral_of a b c ≡ record { value = 10 * (a - 48) + (b - 48); width = 2 }
+  pub numeral-2 : digit b ≡ true → digit c ≡ false → numeral_of a b c ≡ Some (record { value = 10 * (a - 48) + (b - 48); width = 2 })
   unfolding numeral_of
   numeral-2 e f = rw (d, numeral_of) (rw (ne_eqb a 48 z) (rw e (rw f)))
 
-  pub numeral-3 : digit b ≡ true → digit c ≡ true → numeral_of a b c ≡ record { value = 100 * (a - 48) + (10 * (b - 48) + (c - 48)); width = 3 }
+  pub numeral-3 : digit b ≡ true → digit c ≡ true → numeral_of a b c ≡ Some (record { value = 100 * (a - 48) + (10 * (b - 48) + (c - 48)); width = 3 })
   unfolding numeral_of
   numeral-3 e f = rw (d, numeral_of) (rw (ne_eqb a 48 z) (rw e (rw f)))
 
-numeral-path : {v v' w w' : ℕ} → v ≡ v' → w ≡ w' → ◌≡◌ {A = Decimal} (record { value = v; width = w }) (record { value = v'; width = w' })
+numeral-path : {v v' w w' : ℕ} → v ≡ v' → w ≡ w' → ◌≡◌ {A = Option Decimal} (Some (record { value = v; width = w })) (Some (record { value = v'; width = w' }))
 numeral-path p q = rw (p, q)
 
 -- a number that is written is read back
-pub numeral-digits : (n : ℕ) → n ≤ 999 → (c : ℕ) (s : List ℕ) → digit c ≡ false → numeral (digits_in 5 n ++ (c ∷ s)) ≡ record { value = n; width = length (digits_in 5 n) }
+pub numeral-digits : (n : ℕ) → n ≤ 999 → (c : ℕ) (s : List ℕ) → digit c ≡ false → numeral (digits_in 5 n ++ (c ∷ s)) ≡ Some (record { value = n; width = length (digits_in 5 n) })
 unfolding numeral
 numeral-digits n h c s e = go (dec_le n 9) (dec_le n 99)
   where
-    one : Dec (n ≡ 0) → n ≤ 9 → numeral_of (48 + n) c (byte s 0) ≡ record { value = n; width = 1 }
+    one : Dec (n ≡ 0) → n ≤ 9 → numeral_of (48 + n) c (byte s 0) ≡ Some (record { value = n; width = 1 })
     one (yes u) l = numeral-0 _ _ _ (omega arith) ∙ numeral-path (sym u) refl
     one (no u) l = numeral-1 _ _ _ (digit-is n l) (omega arith) e ∙ numeral-path (omega arith) refl
 
-    go : Dec (n ≤ 9) → Dec (n ≤ 99) → numeral (digits_in 5 n ++ (c ∷ s)) ≡ record { value = n; width = length (digits_in 5 n) }
+    go : Dec (n ≤ 9) → Dec (n ≤ 99) → numeral (digits_in 5 n ++ (c ∷ s)) ≡ Some (record { value = n; width = length (digits_in 5 n) })
     go (yes l) m = rw (digits_1 n l) (one (ℕ_discrete n 0) l)
     go (no l) (yes m) =
         rw (digits_2 n (omega arith) m)
@@ -88,42 +89,35 @@ unfolding digit
 space-no-digit = refl
 
 -- nothing is wrong with a number that is written
-number-fine : (missing n c : ℕ) (s : List ℕ) → digit c ≡ false → number_cause missing (record { value = n; width = length (digits_in 5 n) }) (digits_in 5 n ++ (c ∷ s)) ≡ 0
-unfolding number_cause
-number-fine missing n c s e = rw (le-leb 1 (length (digits_in 5 n)) (digits-some n), number_cause) (rw (get_or-append_seam (digits_in 5 n) c s 0) (rw e))
+number-fine : (missing : Cause) (n c : ℕ) (s : List ℕ) → n ≤ 999 → digit c ≡ false → number_read missing (digits_in 5 n ++ (c ∷ s)) ≡ Ok (record { value = n; width = length (digits_in 5 n) })
+unfolding number_read number_alone
+number-fine missing n c s h e = rw (numeral-digits n h c s e, number_alone) (rw (get_or-append_seam (digits_in 5 n) c s 0) (rw e))
 
--- a fault has a cause
-cause-some : (cause : ℕ) (s : List ℕ) → cause ≢ 0 → cause_at cause s ≢ 0
-unfolding cause_at
-cause-some cause s z = go (eqb (byte s 0) 13) (eqb (byte s 0) 9) (starts mark_bytes s)
+-- a number with nothing wrong stands there
+pub number-some : (missing : Cause) (s : List ℕ) {n : Decimal} → number_read missing s ≡ Ok n → numeral s ≡ Some n
+unfolding number_read number_alone
+number-some missing s {n} e = go (numeral s) refl e
   where
-    go : (x y w : Bool) → ◌≢◌ {A = ℕ} (elim x [ true ↦ 12 | false ↦ elim y [ true ↦ 13 | false ↦ elim w [ true ↦ 14 | false ↦ cause ] ] ]) 0
-    go true y w = omega arith
-    go false true w = omega arith
-    go false false true = omega arith
-    go false false false = z
+    alone : (m : Decimal) (b : Bool) → ◌≡◌ {A = Result Decimal Cause} (elim b [ true ↦ Err (digits_cause m.width) | false ↦ Ok m ]) (Ok n) → Some m ≡ Some n
+    alone m true q = let u : ◌≡◌ {A = ℕ} 0 1 = cc in absurd (omega arith)
+    alone m false q = let u : m ≡ n = cc in ap Some u
 
--- a number with nothing wrong is there
-pub number-some : (missing : ℕ) (n : Decimal) (s : List ℕ) → missing ≢ 0 → number_cause missing n s ≡ 0 → 1 ≤ n.width
-unfolding number_cause
-number-some missing n s z e = go (leb 1 n.width) refl
-  where
-    go : (b : Bool) → leb 1 n.width ≡ b → 1 ≤ n.width
-    go true q = leb-true 1 n.width q
-    go false q = absurd (cause-some missing s z (rw (q, number_cause) at e))
+    go : (o : Option Decimal) → numeral s ≡ o → number_alone missing s o ≡ Ok n → numeral s ≡ Some n
+    go None p q = let u : ◌≡◌ {A = ℕ} 0 1 = cc in absurd (omega arith)
+    go (Some m) p q = p ∙ alone m (digit (byte s m.width)) q
 
 -- the parts of a line that is written are read back
-named_back : (l : Line) → l.name ≤ 63 → (s : List ℕ) → named l.depth l.kind l.label (32 ∷ (digits_in 5 l.name ++ (10 ∷ s))) ≡ Good l (length s)
-unfolding named demand ended
+named_back : (l : Line) → l.name ≤ 63 → (s : List ℕ) → named l.depth l.kind l.label (32 ∷ (digits_in 5 l.name ++ (10 ∷ s))) ≡ Ok (record { line = l; left = length s })
+unfolding named demand ended with_number
 named_back l h s =
-    rw (numeral-digits l.name (omega arith) 10 s ten-no-digit)
-    (rw (number-fine 7 l.name 10 s ten-no-digit, le-leb l.name 63 h, drop-append_seam (digits_in 5 l.name) (10 ∷ s)))
+    rw (number-fine cause.NoName l.name 10 s (omega arith) ten-no-digit, with_number)
+    (rw (le-leb l.name 63 h, drop-append_seam (digits_in 5 l.name) (10 ∷ s)))
 
-labelled-back : (l : Line) → Right l → (s : List ℕ) → labelled l.depth l.kind (digits_in 5 l.label ++ (32 ∷ (digits_in 5 l.name ++ (10 ∷ s)))) ≡ Good l (length s)
-unfolding labelled demand
+labelled-back : (l : Line) → Right l → (s : List ℕ) → labelled l.depth l.kind (digits_in 5 l.label ++ (32 ∷ (digits_in 5 l.name ++ (10 ∷ s)))) ≡ Ok (record { line = l; left = length s })
+unfolding labelled demand with_number
 labelled-back l r s =
-    rw (numeral-digits l.label (omega (arith, label-in _ _ r.label)) 32 _ space-no-digit)
-    (rw (number-fine 5 l.label 32 _ space-no-digit, r.label, drop-append_seam (digits_in 5 l.label) (32 ∷ (digits_in 5 l.name ++ (10 ∷ s))))
+    rw (number-fine cause.NoLabel l.label 32 _ (omega (arith, label-in _ _ r.label)) space-no-digit, with_number)
+    (rw (r.label, drop-append_seam (digits_in 5 l.label) (32 ∷ (digits_in 5 l.name ++ (10 ∷ s))))
     (named_back l r.name s))
 
 worded-back : (d k : ℕ) → 1 ≤ k → k ≤ 4 → (s : List ℕ) → worded d (kind_word k ++ s) ≡ labelled d k s
@@ -158,7 +152,7 @@ unfolding line_bytes entry indent field tail_bytes
 line-parts l s = simp append_assoc
 
 -- a line that is written is read back, and nothing after it is looked at
-pub line-back : (d : ℕ) (l : Line) → l.depth ≤ d → Right l → (s : List ℕ) → line_read d (line_bytes l ++ s) ≡ Good l (length s)
+pub line-back : (d : ℕ) (l : Line) → l.depth ≤ d → Right l → (s : List ℕ) → line_read d (line_bytes l ++ s) ≡ Ok (record { line = l; left = length s })
 unfolding line_read demand tail_bytes
 line-back d l h r s =
     let e : spaces (replicate (2 * l.depth) 32 ++ tail_bytes l s) ≡ 2 * l.depth = spaces-after (2 * l.depth) _ (word-solid l.kind r.kind-low r.kind-high _) in
@@ -167,18 +161,18 @@ line-back d l h r s =
     (worded-back l.depth l.kind r.kind-low r.kind-high _ ∙ labelled-back l r s)))
 
 -- what is no line is no end
-empty-bad : (d : ℕ) → line_read d [] ≡ Bad unknown_kind
+empty-bad : (d : ℕ) → line_read d [] ≡ Err cause.UnknownKind
 unfolding line_read demand leading worded unworded cause_at starts ambient_word in_word out_word open_word mark_bytes
 empty-bad d = rw (le-leb 0 d (omega arith))
 
 -- a line, and then the others
-pub scan_good : (room d : ℕ) (s : List ℕ) (l : Line) (left : ℕ) → line_read d s ≡ Good l left → scan_from (suc room) d s ≡ before l (scan_from room (suc l.depth) (drop (length s - left) s))
+pub scan_good : (room d : ℕ) (s : List ℕ) (l : Line) (left : ℕ) → line_read d s ≡ Ok (record { line = l; left = left }) → scan_from (suc room) d s ≡ before l (scan_from room (suc l.depth) (drop (length s - left) s))
 unfolding scan_from
 scan_good room d [] l left e = let u : ◌≡◌ {A = ℕ} 0 1 = cc (empty-bad d) in absurd (omega arith)
 scan_good room d (c ∷ s) l left e = rw (e, scan_from)
 
 -- lines that are written are read back
-pub scan-render : (room d : ℕ) (ls : List Line) → Nested d ls → length ls ≤ room → scan_from room d (render ls) ≡ record { lines = ls; fault = none }
+pub scan-render : (room d : ℕ) (ls : List Line) → Nested d ls → length ls ≤ room → scan_from room d (render ls) ≡ record { lines = ls; fault = None }
 unfolding scan_from render before
 scan-render zero d [] n h = refl
 scan-render (suc room) d [] n h = refl
@@ -196,37 +190,42 @@ pub record Got (d : ℕ) (s : List ℕ) (l : Line) (left : ℕ) : Type 0 where
   pub right : Right l
   pub fewer : left < length s
 
-pub demand-good : (b : Bool) (cause : ℕ) (next : LineRead) {l : Line} {left : ℕ} → demand b cause next ≡ Good l left → (b ≡ true) × (next ≡ Good l left)
+pub demand-good : {A : Type 0} (b : Bool) (given : Cause) (next : Result A Cause) {x : A} → demand b given next ≡ Ok x → (b ≡ true) × (next ≡ Ok x)
 unfolding demand
-demand-good true cause next e = (refl, e)
-demand-good false cause next e = let u : ◌≡◌ {A = ℕ} 0 1 = cc in absurd (omega arith)
+demand-good true given next e = (refl, e)
+demand-good false given next e = let u : ◌≡◌ {A = ℕ} 0 1 = cc in absurd (omega arith)
 
-pub ended-good : (m : Line) (s : List ℕ) {l : Line} {left : ℕ} → ended m s ≡ Good l left → (m ≡ l) × (left < length s)
+-- a number with which it goes on
+pub number-good : (r : Result Decimal Cause) (next : Decimal → Result LineRead Cause) {x : LineRead} → with_number r next ≡ Ok x → (n : Decimal) × (r ≡ Ok n) × (next n ≡ Ok x)
+unfolding with_number
+number-good (Ok n) next e = (n, refl, e)
+number-good (Err c) next e = let u : ◌≡◌ {A = ℕ} 0 1 = cc in absurd (omega arith)
+
+pub ended-good : (m : Line) (s : List ℕ) {l : Line} {left : ℕ} → ended m s ≡ Ok (record { line = l; left = left }) → (m ≡ l) × (left < length s)
 unfolding ended
 ended-good m [] e = let u : ◌≡◌ {A = ℕ} 0 1 = cc in absurd (omega arith)
 ended-good m (c ∷ s) {l} {left} e =
-    let g = (demand-good (eqb c 10) _ (Good m (length s)) e).1 in
-    let u : m ≡ l = cc in
-    let v : length s ≡ left = cc in
-    (u, omega arith)
+    let g = (demand-good (eqb c 10) _ (Ok (record { line = m; left = length s })) e).1 in
+    let u : ◌≡◌ {A = LineRead} (record { line = m; left = length s }) (record { line = l; left = left }) = cc in
+    (ap (λ x. x.line) u, omega (arith, ap (λ x. x.left) u))
 
-pub named-good : (d k label : ℕ) (s : List ℕ) {l : Line} {left : ℕ} → named d k label s ≡ Good l left → (l.depth ≡ d) × (l.kind ≡ k) × (l.label ≡ label) × (l.name ≤ 63) × (left < length s)
+pub named-good : (d k label : ℕ) (s : List ℕ) {l : Line} {left : ℕ} → named d k label s ≡ Ok (record { line = l; left = left }) → (l.depth ≡ d) × (l.kind ≡ k) × (l.label ≡ label) × (l.name ≤ 63) × (left < length s)
 unfolding named
 named-good d k label s {l} {left} e =
-    let n = numeral (drop 1 s) in
     let a = (demand-good (eqb (byte s 0) 32) _ _ e).1 in
-    let b = (demand-good (eqb (number_cause 7 n (drop 1 s)) 0) _ _ a).1 in
-    let c = demand-good (leb n.value 63) 8 _ b in
+    let b = number-good (number_read cause.NoName (drop 1 s)) _ a in
+    let n = b.0 in
+    let c = demand-good (leb n.value 63) cause.WrongName _ b.2 in
     let g = ended-good _ _ c.1 in
     let w : l.name ≡ n.value = sym (ap (λ x. x.name) g.0) in
     (sym (ap (λ x. x.depth) g.0), sym (ap (λ x. x.kind) g.0), sym (ap (λ x. x.label) g.0), omega (arith, leb-true n.value 63 c.0), omega (arith, g.1, length-drop n.width (drop 1 s), length-drop 1 s))
 
-pub labelled-good : (d k : ℕ) (s : List ℕ) {l : Line} {left : ℕ} → 1 ≤ k → k ≤ 4 → labelled d k s ≡ Good l left → Got d s l left
+pub labelled-good : (d k : ℕ) (s : List ℕ) {l : Line} {left : ℕ} → 1 ≤ k → k ≤ 4 → labelled d k s ≡ Ok (record { line = l; left = left }) → Got d s l left
 unfolding labelled
 labelled-good d k s {l} {left} x y e =
-    let n = numeral s in
-    let a = (demand-good (eqb (number_cause 5 n s) 0) _ _ e).1 in
-    let b = demand-good (label_in (eqb k 1) n.value) 6 _ a in
+    let a = number-good (number_read cause.NoLabel s) _ e in
+    let n = a.0 in
+    let b = demand-good (label_in (eqb k 1) n.value) cause.WrongLabel _ a.2 in
     let g = named-good d k n.value _ b.1 in
     record {
       deep = omega (arith, g.0);
@@ -243,21 +242,21 @@ pub record Worded (d : ℕ) (s : List ℕ) (l : Line) (left : ℕ) : Type 0 wher
   pub low : 1 ≤ kind
   pub high : kind ≤ 4
   pub word : starts (kind_word kind) s ≡ true
-  pub after : labelled d kind (drop (length (kind_word kind)) s) ≡ Good l left
+  pub after : labelled d kind (drop (length (kind_word kind)) s) ≡ Ok (record { line = l; left = left })
 
-pub worded-by : (d : ℕ) (s : List ℕ) {l : Line} {left : ℕ} → worded d s ≡ Good l left → Worded d s l left
+pub worded-by : (d : ℕ) (s : List ℕ) {l : Line} {left : ℕ} → worded d s ≡ Ok (record { line = l; left = left }) → Worded d s l left
 unfolding worded unworded kind_word ambient_word in_word out_word open_word
 worded-by d s {l} {left} e = first (starts ambient_word s) refl
   where
-    fourth : (b : Bool) → starts open_word s ≡ b → elim b [ true ↦ labelled d 4 (drop 5 s) | false ↦ unworded s ] ≡ Good l left → Worded d s l left
+    fourth : (b : Bool) → starts open_word s ≡ b → ◌≡◌ {A = Result LineRead Cause} (elim b [ true ↦ labelled d 4 (drop 5 s) | false ↦ unworded s ]) (Ok (record { line = l; left = left })) → Worded d s l left
     fourth true t q = record { kind = 4; low = omega arith; high = omega arith; word = t; after = q }
     fourth false t q = let u : ◌≡◌ {A = ℕ} 0 1 = cc in absurd (omega arith)
 
-    third : (b : Bool) → starts out_word s ≡ b → elim b [ true ↦ labelled d 3 (drop 4 s) | false ↦ elim (starts open_word s) [ true ↦ labelled d 4 (drop 5 s) | false ↦ unworded s ] ] ≡ Good l left → Worded d s l left
+    third : (b : Bool) → starts out_word s ≡ b → ◌≡◌ {A = Result LineRead Cause} (elim b [ true ↦ labelled d 3 (drop 4 s) | false ↦ elim (starts open_word s) [ true ↦ labelled d 4 (drop 5 s) | false ↦ unworded s ] ]) (Ok (record { line = l; left = left })) → Worded d s l left
     third true t q = record { kind = 3; low = omega arith; high = omega arith; word = t; after = q }
     third false t q = fourth (starts open_word s) refl q
 
-    second : (b : Bool) → starts in_word s ≡ b → elim b [ true ↦ labelled d 2 (drop 3 s) | false ↦ elim (starts out_word s) [ true ↦ labelled d 3 (drop 4 s) | false ↦ elim (starts open_word s) [ true ↦ labelled d 4 (drop 5 s) | false ↦ unworded s ] ] ] ≡ Good l left → Worded d s l left
+    second : (b : Bool) → starts in_word s ≡ b → ◌≡◌ {A = Result LineRead Cause} (elim b [ true ↦ labelled d 2 (drop 3 s) | false ↦ elim (starts out_word s) [ true ↦ labelled d 3 (drop 4 s) | false ↦ elim (starts open_word s) [ true ↦ labelled d 4 (drop 5 s) | false ↦ unworded s ] ] ]) (Ok (record { line = l; left = left })) → Worded d s l left
     second true t q = record { kind = 2; low = omega arith; high = omega arith; word = t; after = q }
     second false t q = third (starts out_word s) refl q
 
@@ -265,10 +264,10 @@ worded-by d s {l} {left} e = first (starts ambient_word s) refl
     first true t = record { kind = 1; low = omega arith; high = omega arith; word = t; after = rw (t, worded) at e }
     first false t = second (starts in_word s) refl (rw (t, worded) at e)
 
-pub worded-good : (d : ℕ) (s : List ℕ) {l : Line} {left : ℕ} → worded d s ≡ Good l left → Got d s l left
+pub worded-good : (d : ℕ) (s : List ℕ) {l : Line} {left : ℕ} → worded d s ≡ Ok (record { line = l; left = left }) → Got d s l left
 worded-good d s e = let w = worded-by d s e in got-past (length (kind_word w.kind)) s (labelled-good d w.kind _ w.low w.high w.after)
 
-pub line-good : (d : ℕ) (s : List ℕ) {l : Line} {left : ℕ} → line_read d s ≡ Good l left → Got d s l left
+pub line-good : (d : ℕ) (s : List ℕ) {l : Line} {left : ℕ} → line_read d s ≡ Ok (record { line = l; left = left }) → Got d s l left
 unfolding line_read
 line-good d s e =
     let n = spaces s in
@@ -277,10 +276,10 @@ line-good d s e =
     let g = got-past n s (worded-good (n / 2) _ b.1) in
     record { deep = omega (arith, g.deep, leb-true (n / 2) d b.0); right = g.right; fewer = g.fewer }
 
-pub scan-bad : (room d : ℕ) (s : List ℕ) (cause : ℕ) → s ≢ [] → line_read d s ≡ Bad cause → scan_from (suc room) d s ≡ record { lines = []; fault = some cause }
+pub scan-bad : (room d : ℕ) (s : List ℕ) (c : Cause) → s ≢ [] → line_read d s ≡ Err c → scan_from (suc room) d s ≡ record { lines = []; fault = Some c }
 unfolding scan_from
-scan-bad room d [] cause z e = absurd (z refl)
-scan-bad room d (c ∷ s) cause z e = rw (e, scan_from)
+scan-bad room d [] x z e = absurd (z refl)
+scan-bad room d (c ∷ s) x z e = rw (e, scan_from)
 
 -- the lines that a scan reads are well nested, and no more than there is room for
 pub scan-nested : (room d : ℕ) (s : List ℕ) → Nested d (scan_from room d s).lines × (length (scan_from room d s).lines ≤ room)
@@ -290,10 +289,10 @@ scan-nested zero d (c ∷ s) = (nil, omega arith)
 scan-nested (suc room) d [] = (nil, omega arith)
 scan-nested (suc room) d (c ∷ s) = go (line_read d (c ∷ s)) refl (scan-nested room)
   where
-    go : (x : LineRead) → line_read d (c ∷ s) ≡ x → ((d : ℕ) (s : List ℕ) → Nested d (scan_from room d s).lines × (length (scan_from room d s).lines ≤ room)) →
+    go : (x : Result LineRead Cause) → line_read d (c ∷ s) ≡ x → ((d : ℕ) (s : List ℕ) → Nested d (scan_from room d s).lines × (length (scan_from room d s).lines ≤ room)) →
         Nested d (scan_from (suc room) d (c ∷ s)).lines × (length (scan_from (suc room) d (c ∷ s)).lines ≤ suc room)
-    go (Good l left) e ih =
-        let g = line-good d (c ∷ s) e in
-        let h = ih (suc l.depth) (drop (length (c ∷ s) - left) (c ∷ s)) in
-        rw (scan_good room d (c ∷ s) l left e) (cons g.deep g.right h.0, omega (arith, h.1))
-    go (Bad cause) e ih = rw (scan-bad room d (c ∷ s) cause (λ q. let u : ◌≡◌ {A = ℕ} 0 1 = cc in absurd (omega arith)) e) (nil, omega arith)
+    go (Ok x) e ih =
+        let g = line-good d (c ∷ s) {l = x.line} {left = x.left} e in
+        let h = ih (suc x.line.depth) (drop (length (c ∷ s) - x.left) (c ∷ s)) in
+        rw (scan_good room d (c ∷ s) x.line x.left e) (cons g.deep g.right h.0, omega (arith, h.1))
+    go (Err x) e ih = rw (scan-bad room d (c ∷ s) x (λ q. let u : ◌≡◌ {A = ℕ} 0 1 = cc in absurd (omega arith)) e) (nil, omega arith)

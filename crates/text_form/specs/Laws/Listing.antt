@@ -1,5 +1,6 @@
 -- The listing: the sheet tells what is hidden.
 use Rattle.std.specs.Prelude.{◌%◌, ◌<◌, suc, zero, ℕ, eqb, length, Bool, false, true, List, ◌++◌, ◌≢◌, ◌≡◌, refl}
+use Rattle.std.specs.Prelude.{Result, Ok, Err}
 use Rattle.std.proofs.Common.{eq-eqb, ne_eqb, ◌∙◌, ap₂, arith}
 use Rattle.std.proofs.lemmas.Bool.{lt-leb}
 use Rattle.std.proofs.Math.Bool.{and-false}
@@ -9,14 +10,12 @@ use Rattle.model.specs.Climbing.{hidden}
 use Rattle.model.proofs.Laws.Bytes.{records-encode, valid-size}
 use Rattle.model.proofs.Laws.Checks.{answer-done, answer-refused, then-refuse, passes}
 use Rattle.model.proofs.Laws.Sheet.{sheet-hidden, sheet-shown}
-use Rattle.model.specs.Numbers.{performed_as, refusal}
+use Rattle.model.specs.Numbers.{answer_as, number_of, refusal}
 use Rattle.model.specs.Observer.{sheet, sheet_of}
 use Rattle.model.specs.Records.{at, records}
 use Rattle.model.specs.Refusals.{◌▸◌, Check, and_then, content, need, pass, refuse}
 use Rattle.model.specs.Tables.{suspects, table_right}
 use Rattle.model.specs.Validity.{size_right, validity}
-use Rattle.model.specs.declared.Performed.{Performed}
-use Rattle.model.specs.declared.Performed.TheVariants as performed
 use Rattle.model.specs.declared.Rec.{Rec}
 use Rattle.model.specs.declared.Refusal.{Refusal}
 use Rattle.text_form.specs.Laws.Identity.{next-visited, walk_end}
@@ -24,9 +23,7 @@ use Rattle.text_form.specs.Laws.Nesting.{walk-next}
 use Rattle.text_form.specs.Laws.Walking.{valid-sized}
 use Rattle.text_form.specs.Lines.{entry}
 use Rattle.text_form.specs.Parts.{Whole, Written, front, visit_line}
-use Rattle.text_form.specs.Writing.{line_at, lines_of, list_after, list_answer, list_line, list_of, listable, mark, next_from, told, told_after, walk, walk_from}
-use Rattle.text_form.specs.declared.TextWritten.{TextWritten}
-use Rattle.text_form.specs.declared.TextWritten.TheVariants.{Refused}
+use Rattle.text_form.specs.Writing.{Refused, TextWritten, line_at, lines_of, list_after, list_answer, list_line, list_of, listable, mark, next_from, told, told_after, walk, walk_from}
 use Rattle.text_form.specs.declared.Visit.{Visit}
 
 -- lines that agree on what is not gone agree on a walk
@@ -61,28 +58,28 @@ then-nothing pass = refl
 then-nothing (refuse n r) = refl
 
 module _ (s table t : List ℕ) where
-  refuses : (r : Refusal) → listable s table ≡ refuse r.number r.record → (Refused r ≡ list_answer s table t) × (t ≡ list_after s table t)
+  refuses : (n r : ℕ) → listable s table ≡ refuse n r → (Refused n r ≡ list_answer s table t) × (t ≡ list_after s table t)
   unfolding list_answer list_after told told_after content
-  refuses r e = (rw e, rw e)
+  refuses n r e = (rw e, rw e)
 
   -- an itinerary that is too long
-  pub list-long : 8192 < length s → (Refused (record { number = 1; «record» = 0 }) ≡ list_answer s table t) × (t ≡ list_after s table t)
+  pub list-long : 8192 < length s → (Refused 1 0 ≡ list_answer s table t) × (t ≡ list_after s table t)
   unfolding listable size_right
-  list-long l = refuses _ (then-refuse _ (valid-size s (rw (lt-leb (length s) 8192 l) (and-false (eqb (length s % 8) 0)))))
+  list-long l = refuses _ _ (then-refuse _ (valid-size s (rw (lt-leb (length s) 8192 l) (and-false (eqb (length s % 8) 0)))))
 
-  module _ (d d' : List ℕ) (l : length d ≡ length s) (r : Performed) (a : performed_as r ≡ sheet_answer s table d) (b : d' ≡ sheet_after s table d) where
+  module _ (d d' : List ℕ) (l : length d ≡ length s) (r : Result (Unit {0}) Refusal) (a : answer_as r ≡ sheet_answer s table d) (b : d' ≡ sheet_after s table d) where
     showing-is : showing s table d ≡ listable s table
     unfolding showing listable need
     showing-is = rw (eq-eqb _ _ l) (then-nothing (validity s ▸ need (table_right table) 8 0))
 
-    pub list-refused : {x : Refusal} → r ≡ performed.Refused x → (Refused x ≡ list_answer s table t) × (t ≡ list_after s table t)
-    unfolding performed_as refusal sheet_answer
-    list-refused {x} e = refuses x (sym showing-is ∙ answer-refused (showing s table d) _ (sym a ∙ ap performed_as e))
+    pub list-refused : {x : Refusal} → r ≡ Err x → (Refused (number_of x.cause) x.«record» ≡ list_answer s table t) × (t ≡ list_after s table t)
+    unfolding answer_as refusal sheet_answer
+    list-refused {x} e = refuses _ _ (sym showing-is ∙ answer-refused (showing s table d) _ (sym a ∙ ap answer_as e))
 
-    module _ (e : r ≡ performed.Done) where
+    module _ {y : Unit {0}} (e : r ≡ Ok y) where
       shown : showing s table d ≡ pass
-      unfolding performed_as sheet_answer
-      shown = answer-done (showing s table d) _ _ (sym a ∙ ap performed_as e)
+      unfolding answer_as sheet_answer
+      shown = answer-done (showing s table d) _ _ (sym a ∙ ap answer_as e)
 
       pub list-valid : validity s ≡ pass
       unfolding showing

@@ -4,7 +4,7 @@ use Rattle.std.specs.Prelude.{drop, set, List, [], ◌++◌, ◌∷◌, ◌≢�
 use Rattle.std.proofs.Common.{drop_of_length-le, take_at, ◌∙◌}
 use Rattle.std.proofs.Math.ListN.{get_or, length, length-drop, length-set, take}
 use Rattle.std.proofs.Math.Seq.{drop-drop, get_or-drop, take_all}
-use Rattle.std.proofs.Math.Option.{Option, none, some}
+use Rattle.std.specs.Prelude.{Option, None, Some, Result, Ok, Err}
 use Rattle.std.proofs.Math.Path.{ap, sym}
 use native.Mathlib.Omega.{arith}
 use Rattle.records.specs.Written.{with_record, written, written-length, written_next, written_none}
@@ -13,13 +13,12 @@ use Rattle.model.specs.Records.{at, encode, gone}
 use Rattle.text_put.specs.Puts.{over}
 use Rattle.text_form.specs.Laws.Lines.{Got, line-good, scan-bad, scan_good, scan-nested}
 use Rattle.text_form.specs.Laws.Nesting.{length-placed, none-length}
-use Rattle.text_form.specs.Reading.{Scan, before, cause_of, line_read, lines_answer, none_above, placed, placed_from, read_after, read_by, read_into, record_of, room_in, scan, scan_answer, scan_from}
+use Rattle.text_form.specs.Reading.{Scan, before, line_read, lines_answer, none_above, placed, placed_from, read_after, read_by, read_into, record_of, room_in, scan, scan_answer, scan_from}
 use Rattle.text_form.specs.Parts.{scanned}
 use Rattle.text_form.specs.declared.Line.{Line}
-use Rattle.text_form.specs.declared.LineRead.{LineRead}
-use Rattle.text_form.specs.declared.LineRead.TheVariants.{Bad, Good}
-use Rattle.text_form.specs.declared.TextRead.{TextRead}
-use Rattle.text_form.specs.declared.TextRead.TheVariants.{Fault, Records}
+use Rattle.text_form.specs.declared.Cause.{Cause}
+use Rattle.text_form.specs.declared.Cause.TheVariants as cause
+use Rattle.text_form.specs.declared.Fault.{Fault}
 
 -- the scan from place p on, after k lines
 unfoldable pub rest : ℕ → List ℕ → ℕ → ℕ → ℕ → Scan
@@ -57,12 +56,12 @@ length-all : (ls : List Line) → length (placed ls) ≡ length ls
 unfolding placed
 length-all ls = length-placed 1 none_above ls
 
-scan-empty : (n deepest : ℕ) → scan_from n deepest [] ≡ record { lines = []; fault = none }
+scan-empty : (n deepest : ℕ) → scan_from n deepest [] ≡ record { lines = []; fault = None }
 unfolding scan_from
 scan-empty zero deepest = refl
 scan-empty (suc n) deepest = refl
 
-scan-full : (n deepest : ℕ) (s : List ℕ) → n ≡ 0 → length s ≢ 0 → scan_from n deepest s ≡ record { lines = []; fault = some 1 }
+scan-full : (n deepest : ℕ) (s : List ℕ) → n ≡ 0 → length s ≢ 0 → scan_from n deepest s ≡ record { lines = []; fault = Some cause.TooMany }
 unfolding scan_from
 scan-full n deepest [] e z = absurd (z refl)
 scan-full n deepest (c ∷ s) e z = rw e
@@ -70,39 +69,34 @@ scan-full n deepest (c ∷ s) e z = rw e
 not-empty : (s : List ℕ) → length s ≢ 0 → s ≢ []
 not-empty s z e = z (ap length e)
 
--- a fault, by its cause
-pub told-bad : {g : LineRead} {x : ℕ} (r : ℕ) → g ≡ Bad x → r ≡ cause_of g → g ≡ Bad r
-unfolding cause_of
-told-bad r e q = e ∙ ap Bad (sym (q ∙ ap cause_of e))
-
 module _ {room : ℕ} {text it₀ it above : List ℕ} {p k deepest : ℕ} (w : Progress room text it₀ it above p k deepest) where
   -- nothing more is read
-  ends : (f : Option ℕ) → rest room text p k deepest ≡ record { lines = []; fault = f } → (read_by k f ≡ scan_answer (scan room text)) × (it ≡ scanned (scan room text) it₀)
+  ends : (f : Option Cause) → rest room text p k deepest ≡ record { lines = []; fault = f } → (read_by k f ≡ scan_answer (scan room text)) × (it ≡ scanned (scan room text) it₀)
   unfolding scan_answer scanned
   ends f e =
       let g : (scan room text).fault ≡ f = w.fault ∙ ap (λ x. x.fault) e in
       let n : length (scan room text).lines ≡ k = w.lines ∙ ap (λ x. k + length x.lines) e ∙ omega arith in
       (rw (g, n), rw n w.held)
 
-  pub done : length text ≤ p → (Records k ≡ scan_answer (scan room text)) × (it ≡ scanned (scan room text) it₀)
+  pub done : length text ≤ p → (Ok k ≡ scan_answer (scan room text)) × (it ≡ scanned (scan room text) it₀)
   unfolding read_by rest
-  done h = ends none (rw (drop_of_length-le text h) (scan-empty (room - k) deepest))
+  done h = ends None (rw (drop_of_length-le text h) (scan-empty (room - k) deepest))
 
   more : p < length text → length (drop p text) ≢ 0
   more h = λ z. omega (arith, z, length-drop p text)
 
-  pub full : p < length text → room ≤ k → (Fault (k + 1) 1 ≡ scan_answer (scan room text)) × (it ≡ scanned (scan room text) it₀)
+  pub full : p < length text → room ≤ k → (Err (record { line = k + 1; cause = cause.TooMany }) ≡ scan_answer (scan room text)) × (it ≡ scanned (scan room text) it₀)
   unfolding read_by rest
-  full h l = let u : k + 1 ≡ suc k = omega arith in rw u (ends (some 1) (scan-full (room - k) deepest (drop p text) (omega arith) (more h)))
+  full h l = let u : k + 1 ≡ suc k = omega arith in rw u (ends (Some cause.TooMany) (scan-full (room - k) deepest (drop p text) (omega arith) (more h)))
 
-  pub bad : (cause : ℕ) → p < length text → k < room → line_read deepest (drop p text) ≡ Bad cause → (Fault (k + 1) cause ≡ scan_answer (scan room text)) × (it ≡ scanned (scan room text) it₀)
+  pub bad : (c : Cause) → p < length text → k < room → line_read deepest (drop p text) ≡ Err c → (Err (record { line = k + 1; cause = c }) ≡ scan_answer (scan room text)) × (it ≡ scanned (scan room text) it₀)
   unfolding read_by rest
-  bad cause h l e =
+  bad c h l e =
       let u : k + 1 ≡ suc k = omega arith in
       let v : room - k ≡ suc (room - (k + 1)) = omega arith in
-      rw u (ends (some cause) (ap (λ n. scan_from n deepest (drop p text)) v ∙ scan-bad _ deepest (drop p text) cause (not-empty _ (more h)) e))
+      rw u (ends (Some c) (ap (λ n. scan_from n deepest (drop p text)) v ∙ scan-bad _ deepest (drop p text) c (not-empty _ (more h)) e))
 
-  module _ (line : Line) (n : ℕ) (h : p < length text) (l : k < room) (e : line_read deepest (drop p text) ≡ Good line n) where
+  module _ (line : Line) (n : ℕ) (h : p < length text) (l : k < room) (e : line_read deepest (drop p text) ≡ Ok (record { line = line; left = n })) where
     got : Got deepest (drop p text) line n
     got = line-good deepest (drop p text) e
 
@@ -158,23 +152,23 @@ module _ {room : ℕ} {text it₀ it above : List ℕ} {p k deepest : ℕ} (w : 
         }
 
 -- what the answer tells of a scan
-answer-records : (x : Scan) (n : ℕ) → scan_answer x ≡ Records n → (x.fault ≡ none) × (length x.lines ≡ n)
+answer-records : (x : Scan) (n : ℕ) → scan_answer x ≡ Ok n → (x.fault ≡ None) × (length x.lines ≡ n)
 unfolding scan_answer read_by
 answer-records x n e = go x.fault refl
   where
-    go : (f : Option ℕ) → x.fault ≡ f → (x.fault ≡ none) × (length x.lines ≡ n)
-    go none q = let u : Records (length x.lines) ≡ Records n = rw q at e in let v : length x.lines ≡ n = cc in (q, v)
-    go (some c) q = let u : Fault (suc (length x.lines)) c ≡ Records n = rw q at e in let v : ◌≡◌ {A = ℕ} 0 1 = cc in absurd (omega arith)
+    go : (f : Option Cause) → x.fault ≡ f → (x.fault ≡ None) × (length x.lines ≡ n)
+    go None q = let u : ◌≡◌ {A = Result ℕ Fault} (Ok (length x.lines)) (Ok n) = rw q at e in let v : length x.lines ≡ n = cc in (q, v)
+    go (Some c) q = let u : ◌≡◌ {A = Result ℕ Fault} (Err (record { line = suc (length x.lines); cause = c })) (Ok n) = rw q at e in let v : ◌≡◌ {A = ℕ} 0 1 = cc in absurd (omega arith)
 
-answer-fault : (x : Scan) (l c : ℕ) (b it : List ℕ) → scan_answer x ≡ Fault l c → it ≡ read_into x.fault b it
+answer-fault : (x : Scan) (y : Fault) (b it : List ℕ) → scan_answer x ≡ Err y → it ≡ read_into x.fault b it
 unfolding scan_answer read_by read_into
-answer-fault x l c b it e = go x.fault refl
+answer-fault x y b it e = go x.fault refl
   where
-    go : (f : Option ℕ) → x.fault ≡ f → it ≡ read_into x.fault b it
-    go none q = let u : Records (length x.lines) ≡ Fault l c = rw q at e in let v : ◌≡◌ {A = ℕ} 0 1 = cc in absurd (omega arith)
-    go (some d) q = rw q
+    go : (f : Option Cause) → x.fault ≡ f → it ≡ read_into x.fault b it
+    go None q = let u : ◌≡◌ {A = Result ℕ Fault} (Ok (length x.lines)) (Err y) = rw q at e in let v : ◌≡◌ {A = ℕ} 0 1 = cc in absurd (omega arith)
+    go (Some d) q = rw q
 
-module _ (text it scratch : List ℕ) (room : ℕ) (got : TextRead) (m : room ≡ min 1024 (length it / 8)) (a : got ≡ scan_answer (scan room text)) where
+module _ (text it scratch : List ℕ) (room : ℕ) (got : Result ℕ Fault) (m : room ≡ min 1024 (length it / 8)) (a : got ≡ scan_answer (scan room text)) where
   same-room : scan room text ≡ scan (room_in it) text
   unfolding room_in
   same-room = ap (λ r. scan r text) m
@@ -183,12 +177,12 @@ module _ (text it scratch : List ℕ) (room : ℕ) (got : TextRead) (m : room �
   unfolding lines_answer
   same_answer = a ∙ ap scan_answer same-room
 
-  pub read-fault : {l c : ℕ} → got ≡ Fault l c → (got ≡ lines_answer text it) × (it ≡ read_after text it)
+  pub read-fault : {y : Fault} → got ≡ Err y → (got ≡ lines_answer text it) × (it ≡ read_after text it)
   unfolding read_after
-  read-fault {l} {c} e = (same_answer, rw (← same-room) (answer-fault (scan room text) l c _ it (sym a ∙ e)))
+  read-fault {y} e = (same_answer, rw (← same-room) (answer-fault (scan room text) y _ it (sym a ∙ e)))
 
-  module _ (n : ℕ) (e : got ≡ Records n) (long : length scratch ≡ 8192) where
-    whole : ((scan room text).fault ≡ none) × (length (scan room text).lines ≡ n)
+  module _ (n : ℕ) (e : got ≡ Ok n) (long : length scratch ≡ 8192) where
+    whole : ((scan room text).fault ≡ None) × (length (scan room text).lines ≡ n)
     whole = answer-records (scan room text) n (sym a ∙ e)
 
     pub read-few : 8 * n ≤ length it
@@ -207,7 +201,7 @@ module _ (text it scratch : List ℕ) (room : ℕ) (got : TextRead) (m : room �
         rw (take_all (length (scan room text).lines) (placed (scan room text).lines) k) (take_at (encode (placed (scan room text).lines)) _ (8 * n) u)
 
     pub read-records : (scratch' it' : List ℕ) → scratch' ≡ scanned (scan room text) scratch →
-        it' ≡ take (length (take (8 * n) scratch')) (take (8 * n) scratch') ++ drop (length (take (8 * n) scratch')) it → (Records n ≡ lines_answer text it) × (it' ≡ read_after text it)
+        it' ≡ take (length (take (8 * n) scratch')) (take (8 * n) scratch') ++ drop (length (take (8 * n) scratch')) it → (Ok n ≡ lines_answer text it) × (it' ≡ read_after text it)
     unfolding read_after read_into over
     read-records scratch' it' p q =
         let w : take (8 * n) scratch' ≡ encode (placed (scan room text).lines) = ap (take (8 * n)) p ∙ head in

@@ -1,47 +1,14 @@
 -- Bytes put at a place.
-use Rattle.std.specs.Prelude.{◌*◌, ◌+◌, ◌<◌, ◌≤◌, suc, zero, ℕ, length, replicate, set, List, [], ◌++◌, ◌∷◌, ◌≢◌, Bool, false, true, ◌≡◌, refl}
+use Rattle.std.specs.Prelude.{◌*◌, ◌+◌, ◌≤◌, ℕ, length, replicate, List, [], ◌++◌, ◌∷◌, Bool, false, true, ◌≡◌}
 use Rattle.std.proofs.Common.{length-append, append_assoc, ◌∙◌, ap, sym, arith}
-use Rattle.std.proofs.lemmas.List.{length-replicate, replicate-append-replicate}
+use Rattle.std.proofs.lemmas.List.{length-replicate}
 use Rattle.model.specs.Listing.{digits_in, field}
-use Rattle.text_put.specs.Puts.{Put, splice}
-use Rattle.text_put.specs.Laws.{put_as, put_then, splice-byte, splice-splice}
-use Rattle.text_form.specs.Lines.{ambient_word, entry, hidden_word, in_word, indent, kind_word, open_word, out_word}
+use Rattle.text_put.specs.Puts.{Put}
+use Rattle.text_put.specs.Laws.{put_as, put_then}
+use Rattle.text_form.specs.Lines.{entry, hidden_word, indent, kind_word}
 use Rattle.text_form.specs.Parts.{fields, front}
 use Rattle.text_form.specs.Writing.{mark}
 use Rattle.text_form.specs.declared.Line.{Line}
-
--- a loop that puts spaces
-pub spaces-next : (t t' : List ℕ) (p i : ℕ) → p + i < length t → length t' ≡ length t → t' ≡ splice p (replicate i 32) t → set t' (p + i) 32 ≡ splice p (replicate (i + 1) 32) t
-spaces-next t t' p i h l e =
-    splice-byte t' (p + i) 32 (omega arith)
-    ∙ ap (splice (p + i) (32 ∷ [])) e
-    ∙ splice-splice t p (replicate i 32) (32 ∷ []) (p + i) (ap (λ n. p + n) (sym (length-replicate i 32))) (omega arith)
-    ∙ ap (λ x. splice p x t) (replicate-append-replicate i 1 32)
-
-pub kind_1 : (k : ℕ) → k ≡ 1 → kind_word k ≡ ambient_word
-unfolding kind_word
-kind_1 k e = rw e
-
-pub kind_2 : (k : ℕ) → k ≡ 2 → kind_word k ≡ in_word
-unfolding kind_word
-kind_2 k e = rw e
-
-pub kind_3 : (k : ℕ) → k ≡ 3 → kind_word k ≡ out_word
-unfolding kind_word
-kind_3 k e = rw e
-
-pub kind-4 : (k : ℕ) → k ≡ 4 → kind_word k ≡ open_word
-unfolding kind_word
-kind-4 k e = rw e
-
-pub kind-none : (k : ℕ) → k ≢ 1 → k ≢ 2 → k ≢ 3 → k ≢ 4 → kind_word k ≡ []
-unfolding kind_word
-kind-none zero a b c d = refl
-kind-none (suc zero) a b c d = absurd (a refl)
-kind-none (suc (suc zero)) a b c d = absurd (b refl)
-kind-none (suc (suc (suc zero))) a b c d = absurd (c refl)
-kind-none (suc (suc (suc (suc zero)))) a b c d = absurd (d refl)
-kind-none (suc (suc (suc (suc (suc k))))) a b c d = refl
 
 pub mark-is : (b : Bool) → b ≡ true → mark b ≡ hidden_word
 unfolding mark
@@ -66,11 +33,6 @@ fields-are l = simp append_assoc
 pub entry-is : (f b : List ℕ) (l : Line) → (((replicate (2 * l.depth) 32 ++ f) ++ fields l) ++ b) ++ (10 ∷ []) ≡ entry f b l
 unfolding entry indent fields field
 entry-is f b l = simp append_assoc
-
-pub spaces-done : (t t' : List ℕ) (p i n : ℕ) → i ≤ n → n ≤ i → t' ≡ splice p (replicate i 32) t → Put t p (replicate n 32) t' (p + n)
-spaces-done t t' p i n l h e =
-    let u : i ≡ n = omega arith in
-    record { end = ap (λ k. p + k) (sym (length-replicate n 32)); bytes = e ∙ ap (λ k. splice p (replicate k 32) t) u }
 
 -- the lengths of the parts of a line
 pub front_length : (b : Bool) (n : ℕ) → b ≡ true → length (front b n) ≡ length (digits_in 5 n) + 1

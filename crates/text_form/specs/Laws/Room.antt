@@ -5,11 +5,12 @@ use Rattle.std.specs.Prelude.{◌*◌, ◌+◌, ◌≤◌, suc, zero, ℕ, eqb, 
 use borrow.Author.Tests.{le-leb, leb-true}
 use Rattle.std.proofs.Math.ListN.{length, length-map}
 use Rattle.std.proofs.Common.{length-append, ◌∙◌, arith}
-use Rattle.std.proofs.Math.Option.{Option, none, some}
+use Rattle.std.specs.Prelude.{Option, None, Some, Result, Ok, Err}
 use Rattle.std.proofs.Math.Path.{◌≡◌, ap, refl, sym}
 use Rattle.model.specs.Climbing.{hidden}
 use Rattle.model.proofs.Laws.Booleans.{and_right}
 use Rattle.model.specs.Listing.{digits_in, field}
+use Rattle.model.specs.Numbers.{number_of}
 use Rattle.model.specs.Records.{records}
 use Rattle.model.specs.Refusals.{Check, content, pass, refuse}
 use Rattle.model.specs.Validity.{label_in, validity}
@@ -25,12 +26,12 @@ use Rattle.text_form.specs.Laws.Putting.{entry_length, fields-length}
 use Rattle.text_form.specs.Laws.Walking.{mark-short}
 use Rattle.text_form.specs.Lines.{ambient_word, entry, in_word, kind_word, line_bytes, open_word, out_word, render}
 use Rattle.text_form.specs.Reading.{length_told, lines_answer, longest, read_answer, read_by, room_in, scan, scan_answer, scan_from}
-use Rattle.text_form.specs.Writing.{fits, line_at, lines_of, list_line, list_of, mark, no_text, over_if, shown_text, text_of, text_or, told, told_after, walk}
+use Rattle.text_form.specs.Writing.{Length, NoRoom, Refused, fits, line_at, lines_of, list_line, list_of, mark, no_text, over_if, shown_text, text_of, text_or, told, told_after, walk, written_as}
 use Rattle.text_form.specs.declared.Line.{Line}
-use Rattle.text_form.specs.declared.TextRead.{TextRead}
-use Rattle.text_form.specs.declared.TextRead.TheVariants.{Fault, Records}
-use Rattle.text_form.specs.declared.TextWritten.{TextWritten}
-use Rattle.text_form.specs.declared.TextWritten.TheVariants.{Length, NoRoom, Refused}
+use Rattle.text_form.specs.declared.Cause.{Cause}
+use Rattle.text_form.specs.declared.Fault.{Fault}
+use Rattle.text_form.specs.declared.WriteError.{WriteError}
+use Rattle.text_form.specs.declared.WriteError.TheVariants as error
 use Rattle.text_form.specs.declared.Visit.{Visit}
 
 -- the room of n lines, the first indented by at most d steps
@@ -100,39 +101,40 @@ module _ (s : List ℕ) (v : validity s ≡ pass) where
       omega (arith, list-more (records s) (hidden (records s) S) (walk (records s)), text-short, (written-nested s v).1, length-map (walk (records s)) (line_at (records s)))
 
 -- what a writer with room leaves
-module _ (c : Check) (w t t₁ : List ℕ) (r : TextWritten) (e : r ≡ told c w t) (f : t₁ ≡ told_after c w t) (room : c ≡ pass → length w ≤ length t) where
-  with-room : c ≡ pass → (r ≡ Length (length w)) × (t₁ ≡ over w t)
+module _ (c : Check) (w t t₁ : List ℕ) (r : Result ℕ WriteError) (e : written_as r ≡ told c w t) (f : t₁ ≡ told_after c w t) (room : c ≡ pass → length w ≤ length t) where
+  with-room : c ≡ pass → (written_as r ≡ Length (length w)) × (t₁ ≡ over w t)
   unfolding told told_after content fits over_if
   with-room p = let l = le-leb (length w) (length t) (room p) in (e ∙ rw (p, told) (rw l), f ∙ rw (p, told_after) (rw l))
 
-  without : (n i : ℕ) → c ≡ refuse n i → (r ≡ Refused (record { number = n; «record» = i })) × (t₁ ≡ t)
+  without : (n i : ℕ) → c ≡ refuse n i → (written_as r ≡ Refused n i) × (t₁ ≡ t)
   unfolding told told_after content
   without n i q = (e ∙ rw q, f ∙ rw q)
 
-  pub wrote : (other : List ℕ) (n : ℕ) → r ≡ Length n → (n ≡ length (text_or other c w)) × (t₁ ≡ over (text_or other c w) t)
-  unfolding text_or
+  pub wrote : (other : List ℕ) (n : ℕ) → r ≡ Ok n → (n ≡ length (text_or other c w)) × (t₁ ≡ over (text_or other c w) t)
+  unfolding text_or written_as
   wrote other n q = go c refl
     where
       go : (d : Check) → c ≡ d → (n ≡ length (text_or other d w)) × (t₁ ≡ over (text_or other d w) t)
-      go pass p = let o = with-room p in let l : Length n ≡ Length (length w) = sym q ∙ o.0 in (cc, o.1)
-      go (refuse m i) p = let o = without m i p in let u : ◌≡◌ {A = ℕ} 0 1 = cc in absurd (omega arith)
+      go pass p = let o = with-room p in let l : Length n ≡ Length (length w) = ap written_as (sym q) ∙ o.0 in (cc, o.1)
+      go (refuse m i) p = let o = without m i p in let l : Length n ≡ Refused m i = ap written_as (sym q) ∙ o.0 in let u : ◌≡◌ {A = ℕ} 0 1 = cc in absurd (omega arith)
 
   -- where it is refused, the text is as it was, for the other bytes to be put there
-  pub refused : (other : List ℕ) (x : Refusal) → r ≡ Refused x → {n : ℕ} {t₂ : List ℕ} → (n ≡ length other) × (t₂ ≡ over other t₁) →
+  pub refused : (other : List ℕ) (x : Refusal) → r ≡ Err (error.Refused x) → {n : ℕ} {t₂ : List ℕ} → (n ≡ length other) × (t₂ ≡ over other t₁) →
       (n ≡ length (text_or other c w)) × (t₂ ≡ over (text_or other c w) t)
-  unfolding text_or
+  unfolding text_or written_as
   refused other x q {n} {t₂} y = go c refl
     where
       go : (d : Check) → c ≡ d → (n ≡ length (text_or other d w)) × (t₂ ≡ over (text_or other d w) t)
-      go pass p = let o = with-room p in let u : ◌≡◌ {A = ℕ} 0 1 = cc in absurd (omega arith)
+      go pass p = let o = with-room p in let l : Refused (number_of x.cause) x.«record» ≡ Length (length w) = ap written_as (sym q) ∙ o.0 in let u : ◌≡◌ {A = ℕ} 0 1 = cc in absurd (omega arith)
       go (refuse m i) p = let o = without m i p in (y.0, y.1 ∙ ap (over other) o.1)
 
-  pub never : (n : ℕ) → r ≡ NoRoom n → ⊥
+  pub never : (n : ℕ) → r ≡ Err (error.NoRoom n) → ⊥
+  unfolding written_as
   never n q = go c refl
     where
       go : (d : Check) → c ≡ d → ⊥
-      go pass p = let o = with-room p in let u : ◌≡◌ {A = ℕ} 0 1 = cc in omega arith
-      go (refuse m i) p = let o = without m i p in let u : ◌≡◌ {A = ℕ} 0 1 = cc in omega arith
+      go pass p = let o = with-room p in let l : NoRoom n ≡ Length (length w) = ap written_as (sym q) ∙ o.0 in let u : ◌≡◌ {A = ℕ} 0 1 = cc in omega arith
+      go (refuse m i) p = let o = without m i p in let l : NoRoom n ≡ Refused m i = ap written_as (sym q) ∙ o.0 in let u : ◌≡◌ {A = ℕ} 0 1 = cc in omega arith
 
 -- the text or the other bytes have room where both have
 pub or_short : (other : List ℕ) (c : Check) (w : List ℕ) (n : ℕ) → length other ≤ n → (c ≡ pass → length w ≤ n) → length (text_or other c w) ≤ n
@@ -157,22 +159,22 @@ module _ (readable : Bool) (s t : List ℕ) {n : ℕ} {t' : List ℕ} where
   shown-unread b y = rw b y
 
 -- a length that is told changes no count
-length-told : (k : ℕ) (b : Bool) (r : TextRead) → Records k ≡ length_told b r → Records k ≡ r
+length-told : (k : ℕ) (b : Bool) (r : Result ℕ Fault) → Ok k ≡ length_told b r → Ok k ≡ r
 unfolding length_told
 length-told k true r e = e
-length-told k false (Records n) e = e
-length-told k false (Fault line cause) e = let u : ◌≡◌ {A = ℕ} 0 1 = cc in absurd (omega arith)
+length-told k false (Ok n) e = e
+length-told k false (Err f) e = let u : ◌≡◌ {A = ℕ} 0 1 = cc in absurd (omega arith)
 
 -- the records read have room in the bytes lent
-pub read_fits : (text it : List ℕ) (k : ℕ) → Records k ≡ read_answer text it → 8 * k ≤ length it
+pub read_fits : (text it : List ℕ) (k : ℕ) → Ok k ≡ read_answer text it → 8 * k ≤ length it
 unfolding read_answer lines_answer scan_answer read_by room_in scan
 read_fits text it k e = go (scan_from (room_in it) 0 text).fault refl
   where
-    go : (f : Option ℕ) → (scan_from (room_in it) 0 text).fault ≡ f → 8 * k ≤ length it
-    go none q =
-        let l : Records k ≡ Records (length (scan_from (room_in it) 0 text).lines) = length-told k _ _ e ∙ rw q in
+    go : (f : Option Cause) → (scan_from (room_in it) 0 text).fault ≡ f → 8 * k ≤ length it
+    go None q =
+        let l : ◌≡◌ {A = Result ℕ Fault} (Ok k) (Ok (length (scan_from (room_in it) 0 text).lines)) = length-told k _ _ e ∙ rw q in
         let j : k ≡ length (scan_from (room_in it) 0 text).lines = cc in
         omega (arith, (scan-nested (room_in it) 0 text).1)
-    go (some cause) q =
-        let l : Records k ≡ Fault (suc (length (scan_from (room_in it) 0 text).lines)) cause = length-told k _ _ e ∙ rw q in
+    go (Some c) q =
+        let l : ◌≡◌ {A = Result ℕ Fault} (Ok k) (Err (record { line = suc (length (scan_from (room_in it) 0 text).lines); cause = c })) = length-told k _ _ e ∙ rw q in
         let u : ◌≡◌ {A = ℕ} 0 1 = cc in absurd (omega arith)

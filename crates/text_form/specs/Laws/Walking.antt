@@ -6,16 +6,17 @@ use Rattle.std.proofs.Math.Dec.{eqb}
 use Rattle.std.specs.Prelude.{leb, Bool, ◌&&◌, false, true, ◌≢◌, ◌≡◌}
 use Rattle.std.proofs.Math.ListN.{length}
 use mathlib.Core.List.{List, [], ◌++◌, ◌∷◌, map}
-use Rattle.std.proofs.Math.Path.{ap, refl}
+use Rattle.std.specs.Prelude.{Option, None, Some}
+use Rattle.model.proofs.Laws.Finite.{lowest-some}
+use Rattle.std.proofs.Math.Path.{ap, refl, subst}
 use native.Mathlib.Omega.{arith}
-use Rattle.model.specs.Finite.{lowest, unequal}
+use Rattle.model.specs.Finite.{Each, lowest, unequal}
 use Rattle.model.proofs.Laws.Bytes.{at-whole, length-records, valid-few, valid-whole}
 use Rattle.model.specs.Listing.{field}
 use Rattle.model.specs.Records.{at, count, decode, records}
 use Rattle.model.specs.Refusals.{content, pass, refuse}
 use Rattle.model.specs.Validity.{validity}
 use Rattle.model.specs.declared.Rec.{Rec}
-use Rattle.model.specs.declared.Refusal.{Refusal}
 use Rattle.text_put.specs.Puts.{Put, Putting, over}
 use Rattle.text_put.specs.Digits.{digits-few}
 use Rattle.text_put.specs.Laws.{put-over, putting-end, putting-on, putting-room, putting-start}
@@ -24,9 +25,7 @@ use Rattle.text_form.specs.Laws.Nesting.{walk-next}
 use Rattle.text_form.specs.Laws.Putting.{entry_length, fields-length}
 use Rattle.text_form.specs.Lines.{ambient_word, entry, hidden_word, in_word, kind_word, line_bytes, open_word, out_word, render}
 use Rattle.text_form.specs.Parts.{Whole, Written, front, visit_line}
-use Rattle.text_form.specs.Writing.{child_after, child_or, fits, is_child, line_at, lines_of, mark, next_from, or_zero, over_if, text_of, told, told_after, walk, walk_from, write_after, write_answer}
-use Rattle.text_form.specs.declared.TextWritten.{TextWritten}
-use Rattle.text_form.specs.declared.TextWritten.TheVariants.{Length, NoRoom, Refused}
+use Rattle.text_form.specs.Writing.{Length, NoRoom, Refused, TextWritten, child_after, child_or, child_over, fits, is_child, line_at, lines_of, mark, next_from, or_zero, over_if, text_of, told, told_after, walk, visit_of, walk_from, write_after, write_answer}
 use Rattle.text_form.specs.declared.Visit.{Visit}
 
 -- record i as it is read
@@ -42,39 +41,90 @@ module _ (its : List Rec) (p j : ℕ) where
   unfolding is_child
   child-test r e q = ap (λ x. unequal x.kind 0 && eqb x.parent p) (sym e) ∙ q
 
-  pub child-hit : j < length its → is_child its p (j + 1) ≡ true → child_after its p j ≡ j + 1
-  unfolding child_after lowest or_zero
+  pub child-hit : j < length its → is_child its p (j + 1) ≡ true → child_over its p j ≡ Some (j + 1)
+  unfolding lowest
   child-hit l t =
       let u : length its - j ≡ suc (length its - (j + 1)) = omega arith in
       let v : j + 1 ≡ suc j = omega arith in
       rw (u, v) (rw (rw v at t, lowest))
 
-  pub child-step : j < length its → is_child its p (j + 1) ≡ false → child_after its p j ≡ child_after its p (j + 1)
-  unfolding child_after lowest
+  pub child-step : j < length its → is_child its p (j + 1) ≡ false → child_over its p j ≡ child_over its p (j + 1)
+  unfolding lowest
   child-step l t =
       let u : length its - j ≡ suc (length its - suc j) = omega arith in
       let v : j + 1 ≡ suc j = omega arith in
       rw (u, v) (rw (rw v at t, lowest))
 
-  pub child-end : length its ≤ j → child_after its p j ≡ 0
-  unfolding child_after lowest or_zero
+  pub child-end : length its ≤ j → child_over its p j ≡ None
+  unfolding lowest
   child-end l = let u : length its - j ≡ 0 = omega arith in rw u
 
+-- the visit of a number, none where it is 0
+visit-some : (v : Visit) → v.number ≢ 0 → visit_of v ≡ Some v
+unfolding visit_of
+visit-some v z = go v.number refl
+  where
+    go : (n : ℕ) → v.number ≡ n → visit_of v ≡ Some v
+    go zero e = absurd (z e)
+    go (suc n) e = rw e
+
+visit-none : (v : Visit) → v.number ≡ 0 → visit_of v ≡ None
+unfolding visit_of
+visit-none v e = rw e
+
+-- what a visit tells of the record to visit next
+pub visited : (w : Visit) {o : Option Visit} {v : Visit} → o ≡ visit_of w → o ≡ Some v → (v ≡ w) × (v.number ≢ 0)
+unfolding visit_of
+visited w {o} {v} e q = go w.number refl
+  where
+    go : (n : ℕ) → w.number ≡ n → (v ≡ w) × (v.number ≢ 0)
+    go zero z = let u : ◌≡◌ {A = Option Visit} (Some v) None = sym q ∙ e ∙ visit-none w z in let k : ◌≡◌ {A = ℕ} 0 1 = cc in absurd (omega arith)
+    go (suc n) z = let u : ◌≡◌ {A = Option Visit} (Some v) (Some w) = sym q ∙ e ∙ visit-some w (λ k. omega (arith, k, z)) in let k : v ≡ w = cc in (k, λ x. omega (arith, x, z, ap (λ y. y.number) k))
+
+pub visited_none : (w : Visit) {o : Option Visit} → o ≡ visit_of w → o ≡ None → w.number ≡ 0
+unfolding visit_of
+visited_none w {o} e q = go w.number refl
+  where
+    go : (n : ℕ) → w.number ≡ n → w.number ≡ 0
+    go zero z = z
+    go (suc n) z = let u : ◌≡◌ {A = Option Visit} None (Some w) = sym q ∙ e ∙ visit-some w (λ k. omega (arith, k, z)) in let k : ◌≡◌ {A = ℕ} 0 1 = cc in absurd (omega arith)
+
 module _ (its : List Rec) (e q after : ℕ) where
-  pub next-hit : (j : ℕ) → 0 < e → j ≡ child_after its q after → j ≢ 0 → next_from its e q after ≡ record { number = j; depth = e }
-  unfolding next_from child_or
-  next-hit zero l c z = absurd (z refl)
-  next-hit (suc j) l c z = let u : e ≡ suc (e - 1) = omega arith in rw u (rw (← c))
+  child-over : {j : ℕ} → child_over its q after ≡ Some j → (child_after its q after ≡ j) × (j ≢ 0)
+  unfolding child_after or_zero
+  child-over {j} c = (ap or_zero c, λ z. omega (arith, (lowest-some (is_child its q) (suc after) (length its - after) j c).0, z))
 
-  pub next_up : (j : ℕ) (r : Rec) → 0 < e → j ≡ child_after its q after → j ≡ 0 → r ≡ at its q → next_from its e q after ≡ next_from its (e - 1) r.parent q
+  child-gone : child_over its q after ≡ None → child_after its q after ≡ 0
+  unfolding child_after or_zero
+  child-gone c = ap or_zero c
+
+  hit : (j : ℕ) → 0 < e → child_after its q after ≡ j → j ≢ 0 → next_from its e q after ≡ record { number = j; depth = e }
   unfolding next_from child_or
-  next_up j r l c z h =
+  hit zero l c z = absurd (z refl)
+  hit (suc j) l c z = let u : e ≡ suc (e - 1) = omega arith in rw u (rw c)
+
+  pub next-hit : {j : ℕ} → 0 < e → child_over its q after ≡ Some j → Some (record { number = j; depth = e }) ≡ visit_of (next_from its e q after)
+  next-hit {j} l c =
+      let a = child-over c in
+      let u : next_from its e q after ≡ record { number = j; depth = e } = hit j l a.0 a.1 in
+      sym (ap visit_of u ∙ visit-some (record { number = j; depth = e }) a.1)
+
+  pub next_up : {r : Rec} → 0 < e → child_over its q after ≡ None → r ≡ at its q → next_from its e q after ≡ next_from its (e - 1) r.parent q
+  unfolding next_from child_or
+  next_up {r} l c h =
       let u : e ≡ suc (e - 1) = omega arith in
-      ap (λ n. next_from its n q after) u ∙ rw (sym c ∙ z, child_or) (ap (λ x. next_from its (e - 1) x.parent q) (sym h))
+      ap (λ n. next_from its n q after) u ∙ rw (child-gone c, child_or) (ap (λ x. next_from its (e - 1) x.parent q) (sym h))
 
-  pub next_last : e ≤ 0 → next_from its e q after ≡ record { number = child_after its q after; depth = 0 }
+  pub next_last : {j : ℕ} → e ≤ 0 → child_over its q after ≡ Some j → Some (record { number = j; depth = 0 }) ≡ visit_of (next_from its e q after)
   unfolding next_from
-  next_last l = let u : e ≡ 0 = omega arith in rw u
+  next_last {j} l c =
+      let a = child-over c in
+      let u : e ≡ 0 = omega arith in
+      sym (rw (u, a.0) (visit-some (record { number = j; depth = 0 }) a.1))
+
+  pub next-none : e ≤ 0 → child_over its q after ≡ None → None ≡ visit_of (next_from its e q after)
+  unfolding next_from
+  next-none l c = let u : e ≡ 0 = omega arith in sym (rw (u, child-gone c) (visit-none (record { number = 0; depth = 0 }) refl))
 
 -- a visit is written as its line
 pub visit-is : (listed : Bool) (its shown : List Rec) (v : Visit) (r x : Rec) → r ≡ at its v.number → x ≡ at shown v.number →
@@ -132,72 +182,96 @@ unfolding visit_line line_at
 visit-short listed its shown v h =
     omega (arith, entry_length (front listed v.number) (mark (listed && eqb (at shown v.number).kind 0)) (line_at its v), fields-length (line_at its v), front-short listed v.number, mark-short (listed && eqb (at shown v.number).kind 0), word-short (at its v.number).kind, digits-few 5 (at its v.number).label, digits-few 5 (at its v.number).name)
 
--- the lines left, from record p on
-unfoldable pub ahead : (Visit → List ℕ) → List Rec → ℕ → ℕ → ℕ → List ℕ
-ahead f its left p d = lines_of f (walk_from its left p d)
+-- a walk has no more visits than it may have, and none is deep
+walk-few : (its : List Rec) (n p d : ℕ) → length (walk_from its n p d) ≤ n
+unfolding walk_from
+walk-few its zero p d = omega arith
+walk-few its (suc n) p d = go (next_from its d p 0).number refl (walk-few its n)
+  where
+    go : (j : ℕ) → (next_from its d p 0).number ≡ j → ((p d : ℕ) → length (walk_from its n p d) ≤ n) → length (walk_from its (suc n) p d) ≤ suc n
+    go zero e ih = rw (walk_end its n p d e) (omega arith)
+    go (suc j) e ih =
+        let q : next_from its d p 0 ≡ record { number = suc j; depth = (next_from its d p 0).depth } = rw (← e) in
+        rw (walk-next its n p d j _ q) (omega (arith, ih (suc j) (suc (next_from its d p 0).depth)))
 
--- used bytes of all lines are counted, and there is room for the count of those left
-pub record Measured (f : Visit → List ℕ) (its : List Rec) (left p d used : ℕ) : Type 0 where
-  pub shallow : d + left ≤ 1024
-  pub small : used + 2100 * left ≤ 2150400
-  pub sum : used + length (ahead f its left p d) ≡ length (lines_of f (walk its))
+walk-shallow : (its : List Rec) (n p d : ℕ) → d + n ≤ 1024 → Each (λ v. v.depth ≤ 1024) (walk_from its n p d)
+unfolding walk_from
+walk-shallow its zero p d h = tt
+walk-shallow its (suc n) p d h = go (next_from its d p 0).number refl (walk-shallow its n)
+  where
+    go : (j : ℕ) → (next_from its d p 0).number ≡ j → ((p d : ℕ) → d + n ≤ 1024 → Each (λ v. v.depth ≤ 1024) (walk_from its n p d)) → Each (λ v. v.depth ≤ 1024) (walk_from its (suc n) p d)
+    go zero e ih = rw (walk_end its n p d e) tt
+    go (suc j) e ih =
+        let q : next_from its d p 0 ≡ record { number = suc j; depth = (next_from its d p 0).depth } = rw (← e) in
+        let deep = (next-visited its d p 0).deep in
+        rw (walk-next its n p d j _ q) (omega arith, ih (suc j) (suc (next_from its d p 0).depth) (omega arith))
+
+-- used bytes of all lines are counted, and there is room for the count of the visits left
+pub record Measured (f : Visit → List ℕ) (all left : List Visit) (used : ℕ) : Type 0 where
+  pub shallow : Each (λ v. v.depth ≤ 1024) left
+  pub small : used + 2100 * length left ≤ 2150400
+  pub sum : used + length (lines_of f left) ≡ length (lines_of f all)
 
 -- the lines before place q are written over t₀
-pub record Filling (f : Visit → List ℕ) (its : List Rec) (t₀ t : List ℕ) (left p d q : ℕ) : Type 0 where
-  pub shallow : d + left ≤ 1024
-  pub lines : Putting t₀ 0 (lines_of f (walk its)) t q (ahead f its left p d)
+pub record Filling (f : Visit → List ℕ) (all : List Visit) (t₀ t : List ℕ) (left : List Visit) (q : ℕ) : Type 0 where
+  pub shallow : Each (λ v. v.depth ≤ 1024) left
+  pub lines : Putting t₀ 0 (lines_of f all) t q (lines_of f left)
 
 module _ (f : Visit → List ℕ) (s : List ℕ) (b : Whole s) where
-  all : walk_from (records s) (length s / 8) 0 0 ≡ walk (records s)
+  shallow : Each (λ v. v.depth ≤ 1024) (walk (records s))
   unfolding walk
-  all = rw (whole-count s)
+  shallow = walk-shallow (records s) (length (records s)) 0 0 (omega (arith, whole-count s, b.few))
 
-  pub measure-start : Measured f (records s) (length s / 8) 0 0 0
-  unfolding ahead
-  measure-start = record { shallow = omega (arith, b.few); small = omega (arith, b.few); sum = rw all (omega arith) }
+  few : length (walk (records s)) ≤ 1024
+  unfolding walk
+  few = omega (arith, walk-few (records s) (length (records s)) 0 0, whole-count s, b.few)
 
-  pub fill_start : (t : List ℕ) → length (lines_of f (walk (records s))) ≤ length t → Filling f (records s) t t (length s / 8) 0 0 0
-  unfolding ahead
-  fill_start t h = record { shallow = omega (arith, b.few); lines = rw all (putting-start t 0 _ (omega arith)) }
+  pub measure-start : Measured f (walk (records s)) (walk (records s)) 0
+  measure-start = record { shallow = shallow; small = omega (arith, few); sum = omega arith }
 
-module _ (f : Visit → List ℕ) (its : List Rec) (left p d : ℕ) (v : Visit) (e : v ≡ next_from its d p 0) where
-  ahead-on : 0 < left → v.number ≢ 0 → ahead f its left p d ≡ f v ++ ahead f its (left - 1) v.number (v.depth + 1)
-  unfolding ahead lines_of
-  ahead-on l z = rw (walk-on its left p d v e l z)
+  pub fill_start : (t : List ℕ) → length (lines_of f (walk (records s))) ≤ length t → Filling f (walk (records s)) t t (walk (records s)) 0
+  fill_start t h = record { shallow = shallow; lines = putting-start t 0 _ (omega arith) }
 
-  ahead-stop : v.number ≡ 0 → ahead f its left p d ≡ []
-  unfolding ahead lines_of
-  ahead-stop z = rw (walk-stop its left p d v e z)
+module _ (f : Visit → List ℕ) (all : List Visit) {left next : List Visit} {v : Visit} (e : left ≡ v ∷ next) where
+  shallow_left : Each (λ v. v.depth ≤ 1024) left → (v.depth ≤ 1024) × Each (λ v. v.depth ≤ 1024) next
+  shallow_left w = subst (λ x. Each (λ v. v.depth ≤ 1024) x) e w
 
-  pub measure-on : (used r : ℕ) → Measured f its left p d used → 0 < left → v.number ≢ 0 → length (f v) ≤ 2100 → r ≡ 0 + length (f v) → Measured f its (left - 1) v.number (v.depth + 1) (used + r)
-  measure-on used r w l z h q = record {
-    shallow = omega (arith, w.shallow, visit-deep its left p d v e);
-    small = omega (arith, w.small);
-    sum = omega (arith, w.sum, ap length (ahead-on l z), length-append (f v) (ahead f its (left - 1) v.number (v.depth + 1)));
+  pub measure-deep : {used : ℕ} → Measured f all left used → v.depth ≤ 1024
+  measure-deep w = (shallow_left w.shallow).0
+
+  pub fill-deep : {t₀ t : List ℕ} {q : ℕ} → Filling f all t₀ t left q → v.depth ≤ 1024
+  fill-deep w = (shallow_left w.shallow).0
+
+  lines-left : lines_of f left ≡ f v ++ lines_of f next
+  unfolding lines_of
+  lines-left = rw e
+
+  pub measure-on : {used r : ℕ} → Measured f all left used → length (f v) ≤ 2100 → r ≡ 0 + length (f v) → Measured f all next (used + r)
+  measure-on w h q = record {
+    shallow = (shallow_left w.shallow).1;
+    small = omega (arith, w.small, ap length e);
+    sum = omega (arith, w.sum, ap length lines-left, length-append (f v) (lines_of f next));
   }
 
-  pub measure-stop : (used : ℕ) → Measured f its left p d used → v.number ≡ 0 → used ≡ length (lines_of f (walk its))
-  measure-stop used w z = omega (arith, w.sum, ap length (ahead-stop z))
+  pub measure-small : {used : ℕ} → Measured f all left used → used + 2100 ≤ 2150400
+  measure-small w = omega (arith, w.small, ap length e)
 
-  pub fill-room : {t₀ t : List ℕ} {q : ℕ} → Filling f its t₀ t left p d q → 0 < left → v.number ≢ 0 → q + length (f v) ≤ length t
-  fill-room w l z = putting-room (f v) (ahead f its (left - 1) v.number (v.depth + 1)) w.lines (ahead-on l z)
+  pub fill-room : {t₀ t : List ℕ} {q : ℕ} → Filling f all t₀ t left q → q + length (f v) ≤ length t
+  fill-room w = putting-room (f v) (lines_of f next) w.lines lines-left
 
-  pub fill_on : {t₀ t t' : List ℕ} {q q' : ℕ} → Filling f its t₀ t left p d q → 0 < left → v.number ≢ 0 → length t' ≡ length t → Put t q (f v) t' q' → Filling f its t₀ t' (left - 1) v.number (v.depth + 1) q'
-  fill_on w l z k y = record { shallow = omega (arith, w.shallow, visit-deep its left p d v e); lines = putting-on w.lines (ahead-on l z) k y }
+  pub fill_on : {t₀ t t' : List ℕ} {q q' : ℕ} → Filling f all t₀ t left q → length t' ≡ length t → Put t q (f v) t' q' → Filling f all t₀ t' next q'
+  fill_on w k y = record { shallow = (shallow_left w.shallow).1; lines = putting-on w.lines lines-left k y }
 
-  pub fill_stop : {t₀ t : List ℕ} {q : ℕ} → Filling f its t₀ t left p d q → v.number ≡ 0 → t ≡ over (lines_of f (walk its)) t₀
-  fill_stop w z = (put-over (putting-end w.lines (ahead-stop z))).1
+module _ (f : Visit → List ℕ) (all : List Visit) {left : List Visit} (e : left ≡ []) where
+  none-left : lines_of f left ≡ []
+  unfolding lines_of
+  none-left = rw e
 
-module _ (f : Visit → List ℕ) (its : List Rec) (left p d : ℕ) (l : left ≤ 0) where
-  ahead_none : ahead f its left p d ≡ []
-  unfolding ahead lines_of
-  ahead_none = rw (walk_none its left p d l)
+  pub measure-end : {used : ℕ} → Measured f all left used → used ≡ length (lines_of f all)
+  measure-end w = omega (arith, w.sum, ap length none-left)
 
-  pub measure-end : (used : ℕ) → Measured f its left p d used → used ≡ length (lines_of f (walk its))
-  measure-end used w = omega (arith, w.sum, ap length ahead_none)
-
-  pub fill_end : {t₀ t : List ℕ} {q : ℕ} → Filling f its t₀ t left p d q → t ≡ over (lines_of f (walk its)) t₀
-  fill_end w = (put-over (putting-end w.lines ahead_none)).1
+  pub fill_end : {t₀ t : List ℕ} {q : ℕ} → Filling f all t₀ t left q → t ≡ over (lines_of f all) t₀
+  fill_end w = (put-over (putting-end w.lines none-left)).1
 
 -- room or no room
 pub written_none : (w t : List ℕ) (n : ℕ) → n ≡ length w → length t < n → Written w t t (NoRoom n)
@@ -220,9 +294,9 @@ text-plain its = plain_lines its its (walk its)
 
 -- the writer's answer, after the checks
 module _ (s t : List ℕ) where
-  pub write-refused : (r : Refusal) → validity s ≡ refuse r.number r.record → (Refused r ≡ write_answer s t) × (t ≡ write_after s t)
+  pub write-refused : (n r : ℕ) → validity s ≡ refuse n r → (Refused n r ≡ write_answer s t) × (t ≡ write_after s t)
   unfolding write_answer write_after told told_after content
-  write-refused r e = (rw e, rw e)
+  write-refused n r e = (rw e, rw e)
 
   pub write_done : (t' : List ℕ) (r : TextWritten) → validity s ≡ pass → Written (lines_of (visit_line false (records s) (records s)) (walk (records s))) t t' r → (r ≡ write_answer s t) × (t' ≡ write_after s t)
   unfolding write_answer write_after told told_after content

@@ -1,18 +1,13 @@
--- The goals of `text_numeral::spaces`; the argument stands in Invariants.
-use borrow.Author.Tests.{eq-eqb, ne_eqb}
-use lib.Dec.{eqb}
-use native.Mathlib.Omega.{arith}
-use Rattle.text_form.specs.Laws.Scanning.{leading_end, leading-on, leading-stop}
+-- `text_numeral::spaces` meets its contract: the first byte that is no space ends them.
+use Rattle.std.proofs.Common.{eqb, rules, tests}
+use Rattle.std.proofs.lemmas.Iterator.{YieldsList-from_slice}
+use Rattle.std.proofs.lemmas.Iterator.Search.{position_from_yields_List}
+use Rattle.std.specs.Prelude.{not}
+use Rattle.text_form.specs.Laws.Scanning.{leading-found}
 use Rattle.text_numeral.proofs.spaces.Goals as goal
 
-pub loop-i-init : goal.loop-i-init
-loop-i-init c = (omega arith, omega arith)
-
-pub returns-then-s-i-ne32 : goal.returns-then-s-i-ne32
-returns-then-s-i-ne32 c = omega (arith, c.loop-i.invariant.1, leading-stop (λ x. eqb x 32) c.args.s.now c.loop-i.i c.loop-i-test.true (ne_eqb _ _ c.if-s-i-ne32.true))
-
-pub loop-i-preserved : goal.loop-i-preserved
-loop-i-preserved c = (omega arith, omega (arith, c.loop-i.invariant.1, leading-on (λ x. eqb x 32) c.args.s.now c.loop-i.i c.loop-i-test.true (eq-eqb _ _ c.if-s-i-ne32.false)))
-
 pub returns : goal.returns
-returns c = omega (arith, c.loop-i.invariant.1, leading_end (λ x. eqb x 32) c.args.s.now c.loop-i.i c.loop-i-test.false)
+returns c =
+    let s = c.args.s.now in
+    let found = position_from_yields_List (λ x. not (eqb x 32)) _ _ c.position.result c.position.ensures.ran (YieldsList-from_slice s cc) (λ x q k. search (rules, tests)) in
+    leading-found (λ x. eqb x 32) s found c.unwrap_or.ensures

@@ -1,18 +1,22 @@
 -- `text_read::length_told` meets its contract.
-use borrow.Author.Tests.{le-leb, lt-leb}
-use mathlib.Core.Bool.{false}
-use mathlib.Core.Path.{◌∙◌, ap, sym}
+use Rattle.std.proofs.Common.{◌≡◌, ◌∙◌, ℕ, Bool, true, false, ap, le-leb, refl, sym}
+use Rattle.std.proofs.lemmas.Bool.{lt-leb}
+use Rattle.std.specs.Prelude.{Ok}
 use Rattle.text_form.specs.Reading.{length_told, longest}
 use Rattle.text_read.proofs.length_told.Goals as goal
 
-pub returns-then-len-le1061888 : goal.returns-then-len-le1061888
+pub returns-in-Err : goal.returns-in-Err
 unfolding length_told
-returns-then-len-le1061888 c = rw (le-leb _ longest c.if-len-le1061888.true)
+returns-in-Err c = rw (lt-leb _ longest c.if-len-gt1061888.true) (sym (ap (length_told false) c.in-Err.is))
 
 pub returns-in_default : goal.returns-in_default
 unfolding length_told
-returns-in_default c = rw (lt-leb _ longest c.if-len-le1061888.false) (c.in_default.is ∙ sym (ap (length_told false) c.in_default.is))
+returns-in_default c = rw (le-leb _ longest c.if-len-gt1061888.false) (sym c.in-Err.is)
 
-pub returns : goal.returns
+told : (b : Bool) (n : ℕ) → Ok n ≡ length_told b (Ok n)
 unfolding length_told
-returns c = rw (lt-leb _ longest c.if-len-le1061888.false) (sym (ap (length_told false) c.in-Fault.is))
+told true n = refl
+told false n = refl
+
+pub returns-in_default-2 : goal.returns-in_default-2
+returns-in_default-2 c = c.in_default.is ∙ told _ _ ∙ ap (length_told _) (sym c.in_default.is)

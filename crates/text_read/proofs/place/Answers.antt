@@ -5,4 +5,4 @@ use Rattle.text_read.proofs.place.Goals as goal
 
 pub returns : goal.returns
 unfolding record_of
-returns c = (c.put_record.ensures, refl)
+returns c = record { bytes = c.put_record.ensures; above = refl }

@@ -1,32 +1,37 @@
 -- The goals of `validity::climb_all`; the argument stands in Invariants.
-use mathlib.Core.Path.{◌∙◌, refl, sym}
-use native.Mathlib.Omega.{arith}
-use Rattle.model.specs.Numbers.{checked_as}
-use Rattle.model.proofs.Laws.Checks.{rest_end, rest-next, rest-refuse, rest-start}
-use Rattle.validity.specs.Laws.{climb-pass, climb-refuse, climbable, enough-all}
-use Rattle.std.proofs.Common.{rules}
+use Rattle.std.proofs.Common.{◌∙◌, ◌+◌, ◌≡◌, Err, ap, sym, arith, rules}
+use Rattle.model.specs.Numbers.{check_as, number_of}
+use Rattle.model.proofs.Laws.Checks.{passed, refused-by, rest_end, rest-next, rest-refuse, rest-start}
+use Rattle.model.specs.Records.{records}
+use Rattle.model.specs.Refusals.{need}
+use Rattle.model.specs.Validity.{climb_check}
+use Rattle.validity.specs.Laws.{found-reaches}
+use Rattle.ways.specs.Laws.{found-is}
 use Rattle.validity.proofs.climb_all.Goals as goal
+use Rattle.validity.proofs.climb_all.Goals.{After-need}
 
 pub loop-i-init : goal.loop-i-init
-loop-i-init c = (c.requires.0, refl, search rules, rest-start _ _)
+loop-i-init c = (c.requires.noting, rest-start _ _)
 
-pub settled-requires : goal.settled-requires
-settled-requires c = (c.loop-i.invariant.0, enough-all _ _ _ c.requires.1 (omega arith), omega arith)
+-- the check of record i + 1
+checked : (c : After-need) → check_as c.need.result ≡ climb_check (records c.args.it.now) (c.loop-i.i + 1)
+unfolding climb_check number_of
+checked c =
+    let f = c.find-found.ensures in
+    c.need.ensures ∙ ap (λ b. need b 6 (c.loop-i.i + 1)) (c.is_some.ensures ∙ found-reaches _ f.noted.noting.passable.parented _ (omega (arith, c.requires.counted)) _ (λ x e. found-is f.noted _ (omega (arith, c.requires.counted)) _ f.here e) (rw (← c.requires.counted) f.lost))
 
-pub returns-then-not-settled : goal.returns-then-not-settled
-unfolding checked_as
-returns-then-not-settled c =
-    (sym (c.loop-i.invariant.3 ∙ rest-refuse _ _ _ _ _ c.loop-i-test.true (climb-refuse _ _ c.settled.ensures.0 (c.if-not-settled.true))), c.settled.ensures.1)
+pub returns-in_err-need : goal.returns-in_err-need
+unfolding check_as
+returns-in_err-need c =
+    let e : c.from_residual.result ≡ Err c.in_err-need.field-0.0 = search rules in
+    rw e (sym (c.loop-i.invariant.1 ∙ rest-refuse _ _ _ _ _ c.loop-i-test.true (refused-by _ _ (checked (goal.at.returns-in_err-need c).After-need) c.in_err-need.was)))
 
 pub loop-i-preserved : goal.loop-i-preserved
-loop-i-preserved c =
-    let inv = c.loop-i.invariant in (
-      climbable inv.0 c.settled.auto.known c.settled.ensures.1,
-      c.settled.auto.known ∙ inv.1,
-      omega arith,
-      inv.3 ∙ rest-next _ _ _ c.loop-i-test.true (climb-pass _ _ c.settled.ensures.0 (c.if-not-settled.false)),
-    )
+loop-i-preserved c = (
+  c.find-found.ensures.noted.noting,
+  c.loop-i.invariant.1 ∙ rest-next _ _ _ c.loop-i-test.true (passed _ _ (checked (goal.at.loop-i-preserved c).After-need) c.in_ok-need.was),
+)
 
 pub returns : goal.returns
-unfolding checked_as
-returns c = (sym (c.loop-i.invariant.3 ∙ rest_end _ _ _ c.loop-i-test.false), c.loop-i.invariant.0.marks)
+unfolding check_as
+returns c = sym (c.loop-i.invariant.1 ∙ rest_end _ _ _ c.loop-i-test.false)

@@ -1,9 +1,7 @@
--- `validity::climbs` meets its contract: before the first climb the environment alone has a mark.
-use Rattle.validity.specs.Laws.{marked-root}
+-- `validity::climbs` meets its contract: before the first climb the environment alone has its note.
+use Rattle.validity.specs.Arriving.{arriving}
+use Rattle.ways.specs.Laws.{noting-root}
 use Rattle.validity.proofs.climbs.Goals as goal
 
 pub climb_all-requires : goal.climb_all-requires
-climb_all-requires c = (marked-root c.requires.0, c.requires.1)
-
-pub returns : goal.returns
-returns c = c.climb_all.ensures.0
+climb_all-requires c = record { noting = noting-root arriving c.requires.parented; counted = c.requires.counted }

@@ -1,30 +1,36 @@
 -- `validity::form` meets its contract: 1, then 2 to 5 by `read_all`, then 6 by `climbs`, each where the one before passes.
-use mathlib.Core.Path.{◌∙◌, refl, sym}
-use native.Mathlib.Omega.{arith}
-use Rattle.model.proofs.Laws.Bytes.{form-size, size-le}
-use Rattle.model.proofs.Laws.Checks.{passed, refused-by}
-use Rattle.model.specs.Numbers.{checked_as}
+use Rattle.std.proofs.Common.{◌∙◌, ◌≡◌, Err, refl, sym, true, arith, rules}
+use Rattle.model.proofs.Laws.Bytes.{size-le}
+use Rattle.model.proofs.Laws.Checks.{need-pass, passed, refused-by}
+use Rattle.model.specs.Numbers.{check_as, number_of}
 use Rattle.model.specs.Records.{count}
 use Rattle.model.specs.Validity.{size_right}
 use Rattle.validity.specs.Laws.{form-climb, form-read, parented}
 use Rattle.validity.proofs.form.Goals as goal
+use Rattle.validity.proofs.form.Goals.{In_ok-need}
 
-pub returns-then-not-len : goal.returns-then-not-len
-unfolding checked_as size_right
-returns-then-not-len c = sym (form-size _ (c.if-not-len.true))
+-- the length is right behind the first check
+sized : (c : In_ok-need) → size_right c.args.it.now ≡ true
+unfolding size_right number_of
+sized c = need-pass _ _ _ (passed _ _ c.need.ensures c.in_ok-need.was)
 
 pub overflow_cast-n : goal.overflow_cast-n
-unfolding size_right
-overflow_cast-n c = omega (arith, size-le c.args.it.now (c.if-not-len.false))
+overflow_cast-n c = omega (arith, size-le c.args.it.now (sized (goal.at.overflow_cast-n c).In_ok-need))
 
-pub returns-in_default : goal.returns-in_default
-unfolding size_right count
-returns-in_default c = let q = c.in_default.is in c.read_all-seen.ensures ∙ refused-by _ _ c.read_all-seen.ensures q ∙ sym (form-read _ (c.if-not-len.false) (refused-by _ _ c.read_all-seen.ensures q))
+pub climbs-requires-clause-parented : goal.climbs-requires-clause-parented
+unfolding count
+climbs-requires-clause-parented c = parented _ (sized (goal.at.climbs-requires-clause-parented c).In_ok-need) (passed _ _ c.read_all.ensures c.in_ok-read_all.was)
 
-pub climbs-requires : goal.climbs-requires
-unfolding size_right count
-climbs-requires c = (parented _ (c.if-not-len.false) (passed _ _ c.read_all-seen.ensures c.in-Pass.is), refl)
+pub climbs-requires-clause-counted : goal.climbs-requires-clause-counted
+unfolding count
+climbs-requires-clause-counted c = refl
+
+pub returns-in_err-read_all : goal.returns-in_err-read_all
+unfolding check_as count
+returns-in_err-read_all c =
+    let e : c.from_residual-in_err-read_all.result ≡ Err c.in_err-read_all.field-0.0 = search rules in
+    rw e (sym (form-read _ (sized (goal.at.returns-in_err-read_all c).In_ok-need) (refused-by _ _ c.read_all.ensures c.in_err-read_all.was)))
 
 pub returns : goal.returns
-unfolding size_right count
-returns c = c.climbs.ensures ∙ sym (form-climb _ (c.if-not-len.false) (passed _ _ c.read_all-seen.ensures c.in-Pass.is))
+unfolding count
+returns c = c.climbs.ensures ∙ sym (form-climb _ (sized (goal.at.returns c).In_ok-need) (passed _ _ c.read_all.ensures c.in_ok-read_all.was))

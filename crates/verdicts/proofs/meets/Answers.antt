@@ -1,16 +1,15 @@
 -- The goals of `verdicts::meets`; the argument stands in Invariants.
-use mathlib.Core.Path.{◌∙◌}
-use native.Mathlib.Omega.{arith}
+use Rattle.std.proofs.Common.{◌∙◌, arith}
 use Rattle.model.specs.Verdicts.{marked}
 use Rattle.verdicts.specs.Laws.{some-all, some_next, some-none}
 use Rattle.verdicts.proofs.meets.Goals as goal
 
 pub loop-k-init : goal.loop-k-init
-loop-k-init c = (omega arith, some-none _ _)
+loop-k-init c = some-none _ _
 
 pub loop-k-preserved : goal.loop-k-preserved
 unfolding marked
-loop-k-preserved c = let l = c.loop-k in (omega arith, some_next _ _ l.k l.invariant.1)
+loop-k-preserved c = some_next _ _ c.loop-k.k c.loop-k.invariant
 
 pub returns : goal.returns
-returns c = let l = c.loop-k in l.invariant.1 ∙ some-all _ _ (omega arith)
+returns c = c.loop-k.invariant ∙ some-all _ _ (omega arith)

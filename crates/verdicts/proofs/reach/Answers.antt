@@ -1,6 +1,6 @@
 -- `verdicts::reach` meets its contract: with no label to stop at, all is reached.
-use Rattle.verdicts.specs.Laws.{until-all}
+use Rattle.verdicts.specs.Laws.{no-label, until-all}
 use Rattle.verdicts.proofs.reach.Goals as goal
 
 pub returns : goal.returns
-returns c = until-all c.reach_until.ensures c.none.ensures
+returns c = until-all c.reach_until.ensures no-label

@@ -1,8 +1,0 @@
--- `replay_buffers::lent` meets its contract.
--- The bytes of a buffer are those at the place of its room.
-use Rattle.replay_buffers.specs.Storing.{bytes_of}
-use Rattle.replay_buffers.proofs.lent.Goals as goal
-
-pub returns : goal.returns
-unfolding bytes_of
-returns c = c.place.ensures

@@ -1,0 +1,2 @@
+-- What a file of cases means by its bytes.
+pub mod Codes
