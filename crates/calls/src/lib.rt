@@ -13,8 +13,7 @@ use model::{Above, Counts, Refusal, Screen, Verdict};
 pub fn validate(it: &[u8]) -> Result<u16, Refusal>
     ensures { answer_as result ≡ validate_answer it.now }
 {
-    validity::validity(it)?;
-    Ok((it.len() / 8) as u16)
+    Ok(validity::validity(it)?.count())
 }
 
 // What stands above a record, its container and the nearest boundary ambient: refusals 1 to 6, 7; both 0 for number 0, over
@@ -23,8 +22,8 @@ pub fn validate(it: &[u8]) -> Result<u16, Refusal>
 pub fn climb(it: &[u8], policy: &[u8], number: u16) -> Result<Above, Refusal>
     ensures { answer_as result ≡ climb_answer it.now policy.now number }
 {
-    let policy = sequences::entry(it, policy)?;
-    Ok(enclosures::enclosure_of(it, policy, number))
+    let (valid, policy) = sequences::entry(it, policy)?;
+    Ok(enclosures::enclosure_of(&valid, policy, number))
 }
 
 // The observer's sheet.
@@ -33,8 +32,8 @@ pub fn sheet(it: &[u8], table: &[u8], sheet: &mut [u8]) -> Result<(), Refusal>
     ensures answer { answer_as result ≡ sheet_answer it.now table.now sheet.old }
     ensures sheet { sheet.new ≡ sheet_after it.now table.now sheet.old }
 {
-    let table = sequences::showing(it, table, sheet)?;
-    observer::write_sheet(it, table, sheet);
+    let (valid, table) = sequences::showing(it, table, sheet)?;
+    observer::write_sheet(&valid, table, sheet);
     Ok(())
 }
 
@@ -75,8 +74,9 @@ pub fn make(it: &[u8], policy: &[u8], table: &mut [u8]) -> Result<u16, Refusal>
     ensures answer { answer_as result ≡ make_answer it.now policy.now table.old }
     ensures table { table.new ≡ make_after it.now policy.now table.old }
 {
-    let policy = sequences::making(it, policy, table)?;
-    Ok(table_least::write_least(it, policy, table))
+    let (valid, policy) = sequences::making(it, policy, table)?;
+    let table = table.as_mut_array().unwrap();
+    Ok(table_least::write_least(&valid, policy, table))
 }
 
 // The verdict, after the check.

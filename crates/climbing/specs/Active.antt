@@ -10,7 +10,7 @@ use Rattle.model.proofs.Laws.Containers.{ambient-and, not-ambient-and}
 use Rattle.model.proofs.Laws.Updates.{at-root}
 use Rattle.model.specs.Records.{decode, is_ambient, records}
 use Rattle.model.specs.declared.Rec.{Rec}
-use Rattle.records.specs.Climbs.{ambient-is, ambient-not, climb-lost, climb-on, climb-top}
+use Rattle.records.specs.Climbs.{climb-lost, climb-on, climb-top}
 use Rattle.climbing.specs.Up.{up_from}
 
 -- climbing past ambients; r is record i
@@ -52,10 +52,10 @@ module _ (s : List ℕ) (m : length s % 8 ≡ 0) where
       ∙ ap (λ k. view_from ambients_only (records s) k c) u
 
 module _ (s : List ℕ) (i : ℕ) (r : Rec) (e : r ≡ decode s i) where
-  pub up-over : r.kind ≡ 1 → r.parent ≡ up_from s i
+  pub up-over : is_ambient r ≡ true → r.parent ≡ up_from s i
   unfolding up_from
-  up-over k = ap (λ x. x.parent) e ∙ sym (ap (λ (t : Bool). elim t [ true ↦ (decode s i).parent | false ↦ i ]) (ap is_ambient (sym e) ∙ ambient-is r k))
+  up-over t = ap (λ x. x.parent) e ∙ sym (ap (λ (t : Bool). elim t [ true ↦ (decode s i).parent | false ↦ i ]) (ap is_ambient (sym e) ∙ t))
 
-  pub up-stays : r.kind ≢ 1 → i ≡ up_from s i
+  pub up-stays : is_ambient r ≡ false → i ≡ up_from s i
   unfolding up_from
-  up-stays k = sym (ap (λ (t : Bool). elim t [ true ↦ (decode s i).parent | false ↦ i ]) (ap is_ambient (sym e) ∙ ambient-not r k))
+  up-stays t = sym (ap (λ (t : Bool). elim t [ true ↦ (decode s i).parent | false ↦ i ]) (ap is_ambient (sym e) ∙ t))

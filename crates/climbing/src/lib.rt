@@ -11,7 +11,7 @@ fn up(it: &[u8], i: u16) -> u16
     ensures { result ≡ up_from it.now i }
 {
     let r = records::record_at(it, i);
-    if r.kind == 1 { r.parent } else { i }
+    if r.is_ambient() { r.parent } else { i }
 }
 
 // Whether number i and all records above it are ambients, with at most left climbs. Four climbs a call.
@@ -20,7 +20,7 @@ pub fn ambients(it: &[u8], i: u16, left: usize) -> bool
     ensures { result ≡ view_from ambients_only (records it.now) left i }
 {
     let r = records::record_at(it, i);
-    if r.kind != 1 {
+    if !r.is_ambient() {
         return i == 0;
     }
     if left == 0 {

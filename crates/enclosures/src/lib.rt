@@ -5,12 +5,11 @@
 ghost use Rattle.std.specs.Prelude.{◌≡◌, None, Some, replicate, set};
 ghost use Rattle.model.specs.Climbing.{enclosing, enclosure};
 ghost use Rattle.model.specs.Records.{records};
-ghost use Rattle.model.specs.Refusals.{pass};
-ghost use Rattle.model.specs.Validity.{validity};
 ghost use Rattle.ways.specs.Ways.{Noting};
 ghost use Rattle.enclosures.specs.Notes.{all_notes};
 
 use model::Above;
+use records::Itinerary;
 use tables::{BOUNDARY, Policy};
 use ways::Finds;
 
@@ -59,27 +58,26 @@ pub fn notes() -> [Option<Above>; 1025]
 }
 
 // Notes what each number is enclosed by, itself counted.
-pub fn enclose(it: &[u8], policy: &Policy, notes: &mut [Option<Above>])
-    requires valid { validity it.now ≡ pass }
-    requires noting { Noting (enclosing policy.now) it.now notes.old }
+pub fn enclose(it: &Itinerary, policy: &Policy, notes: &mut [Option<Above>])
+    requires { Noting (enclosing policy.now) it.now notes.old }
     ensures { notes.new ≡ all_notes policy.now it.now notes.old }
 {
     let view = Enclosing { policy };
-    let n = it.len() / 8;
-    for i in 0..n as u16 {
-        let _ = ways::find(it, &view, notes, i + 1, n);
+    let n = it.count();
+    for i in 0..n {
+        let _ = ways::find(it.bytes, &view, notes, i + 1, n as usize);
     }
 }
 
 // What stands above record i: its container, and the nearest boundary ambient.
-pub fn enclosure_of(it: &[u8], policy: &Policy, i: u16) -> Above
-    requires { validity it.now ≡ pass }
+pub fn enclosure_of(it: &Itinerary, policy: &Policy, i: u16) -> Above
     ensures { result ≡ enclosure policy.now (records it.now) i }
 {
-    let parent = records::record_at(it, i).parent;
+    let parent = records::record_at(it.bytes, i).parent;
     if parent == 0 {
         return outermost();
     }
     let mut notes = notes();
-    ways::find(it, &Enclosing { policy }, &mut notes, parent, it.len() / 8).unwrap()
+    let n = it.count() as usize;
+    ways::find(it.bytes, &Enclosing { policy }, &mut notes, parent, n).unwrap()
 }

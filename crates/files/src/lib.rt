@@ -34,7 +34,7 @@ pub struct FullRead {
     pub error: Option<io::Error>,
 }
 
-// Reads until the buffer is full, the file ends or a read fails.
+// Reads until the buffer is full, the file ends or a read fails: no range tells beforehand how many reads that takes.
 pub fn read_full(file: &mut impl Read, buffer: &mut [u8]) -> FullRead
     ensures { IsPrefixLen result.len buffer.new }
 {

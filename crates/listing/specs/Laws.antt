@@ -1,13 +1,14 @@
 -- The parts of the text put one after the other, and the loop over the steps: what is still to be put is the lines of the
 -- steps ahead.
-use Prim.Native.Nat.{◌*◌, ◌+◌, ◌/◌, ◌<◌, ◌≤◌, suc, ℕ}
+use Prim.Native.Nat.{◌*◌, ◌+◌, ◌/◌, ◌<◌, ◌≤◌, suc, zero, ℕ}
 use Rattle.std.proofs.Math.ListN.{drop, length}
-use Rattle.std.proofs.Common.{drop_of_length-le, length-append, append_assoc, ◌∙◌, sym, zero-add}
-use Rattle.std.specs.Prelude.{get_or, List, [], ◌++◌, ◌∷◌, ◌≡◌, refl}
-use Rattle.std.proofs.Math.Seq.{drop-cons}
+use Rattle.std.proofs.Common.{get_or-take, inl, inr, length-append, append_assoc, ◌∙◌, sym}
+use Rattle.std.specs.Prelude.{map, take, List, [], ◌++◌, ◌∷◌, ◌⊎◌, ◌≡◌, refl}
+use Rattle.std.specs.Simd.{first_chunks}
+use Rattle.std.proofs.Math.Seq.{drop-drop, get_or-drop}
 use Rattle.std.proofs.Math.Path.{ap}
 use native.Mathlib.Omega.{arith}
-use Rattle.model.proofs.Laws.Finite.{get_d_tabulate}
+use Rattle.model.specs.Finite.{tabulate}
 use Rattle.model.specs.Listing.{end_line, end_word, field, last_field, listing, step_lines, verdict_word}
 use Rattle.model.specs.Records.{byte, word}
 use Rattle.model.specs.Refusals.{done}
@@ -16,22 +17,21 @@ use Rattle.model.specs.Numbers.{label_of}
 use Rattle.model.specs.declared.Screen.{Screen}
 use Rattle.model.specs.declared.Verdict.{Verdict}
 use Rattle.model.specs.declared.Verdict.TheVariants.{Exposed, Hinted, Sealed}
-use Rattle.text_put.specs.Laws.{field-few, field-length, field-then, last-few, last_then, line-few, put_as, put_then, putting-room, putting-start}
-use Rattle.text_put.specs.Puts.{Put, Putting}
+use Rattle.text_put.specs.Laws.{by-short, field-length, field-then, last-length, last_then, line-few, put_as, put_then, putting-start}
+use Rattle.text_put.specs.Puts.{Put, Putting, field_by}
 use Rattle.listing.specs.Lines.{count_fields, step_line}
-use Rattle.scripts.specs.Runs.{Script, length-steps}
 
 -- the parts of a step's line
-pub step-length : (x y a : ℕ) → length (step_line x y a) ≡ length (field x []) + (length (field y []) + length (last_field a []))
+pub step-length : (x y a : ℕ) → length (step_line x y a) ≡ length (field_by x 32) + (length (field_by y 32) + length (field_by a 10))
 unfolding step_line
-step-length x y a = omega (arith, field-length x (field y (last_field a [])), field-length x [], field-length y (last_field a []), field-length y [])
+step-length x y a = omega (arith, field-length x (field y (last_field a [])), field-length y (last_field a []), last-length a [])
 
 pub step-put : (x y a : ℕ) {t t₁ t₂ t₃ : List ℕ} {p e₁ e₂ e₃ : ℕ} → p + length (step_line x y a) ≤ length t →
-    Put t p (field x []) t₁ e₁ → Put t₁ e₁ (field y []) t₂ e₂ → Put t₂ e₂ (last_field a []) t₃ e₃ → Put t p (step_line x y a) t₃ e₃
-unfolding step_line
+    Put t p (field_by x 32) t₁ e₁ → Put t₁ e₁ (field_by y 32) t₂ e₂ → Put t₂ e₂ (field_by a 10) t₃ e₃ → Put t p (step_line x y a) t₃ e₃
+unfolding step_line field last_field field_by
 step-put x y a h u v w =
     let l = step-length x y a in
-    put_as (append_assoc (field x []) (field y []) (last_field a []) ∙ rw (field-then y [] (last_field a []), field-then x []))
+    put_as (simp append_assoc)
     (put_then (put_then u v (omega (arith, u.end, v.end))) w (omega (arith, u.end, v.end, w.end)))
 
 -- what stands in the last line after its word
@@ -41,18 +41,18 @@ counts-few x =
     let left = last_field x.records [] in
     let opens = field x.counts.opens left in
     let outs = field x.counts.outs opens in
-    omega (arith, field-length x.counts.ins outs, field-length x.counts.ins [], field-few x.counts.ins, field-length x.counts.outs opens, field-length x.counts.outs [], field-few x.counts.outs, field-length x.counts.opens left, field-length x.counts.opens [], field-few x.counts.opens, last-few x.records)
+    omega (arith, field-length x.counts.ins outs, by-short x.counts.ins 32, field-length x.counts.outs opens, by-short x.counts.outs 32, field-length x.counts.opens left, by-short x.counts.opens 32, last-length x.records [], by-short x.records 10)
 
 pub counts-put : (x : Screen) {t t₁ t₂ t₃ t₄ : List ℕ} {p e₁ e₂ e₃ e₄ : ℕ} → p + 24 ≤ length t →
-    Put t p (field x.counts.ins []) t₁ e₁ → Put t₁ e₁ (field x.counts.outs []) t₂ e₂ → Put t₂ e₂ (field x.counts.opens []) t₃ e₃ → Put t₃ e₃ (last_field x.records []) t₄ e₄ →
+    Put t p (field_by x.counts.ins 32) t₁ e₁ → Put t₁ e₁ (field_by x.counts.outs 32) t₂ e₂ → Put t₂ e₂ (field_by x.counts.opens 32) t₃ e₃ → Put t₃ e₃ (field_by x.records 10) t₄ e₄ →
     Put t p (count_fields x) t₄ e₄
-unfolding count_fields
+unfolding count_fields field last_field field_by
 counts-put x h u v w y =
-    let i = field-few x.counts.ins in
-    let j = field-few x.counts.outs in
-    let k = field-few x.counts.opens in
-    let l = last-few x.records in
-    put_as (simp (append_assoc, field-then))
+    let i = by-short x.counts.ins 32 in
+    let j = by-short x.counts.outs 32 in
+    let k = by-short x.counts.opens 32 in
+    let l = by-short x.records 10 in
+    put_as (simp append_assoc)
     (put_then (put_then (put_then u v (omega (arith, u.end, v.end))) w (omega (arith, u.end, v.end, w.end))) y (omega (arith, u.end, v.end, w.end, y.end)))
 
 -- the word of line one
@@ -61,10 +61,6 @@ unfolding verdict_word
 verdict-few (Exposed k) = omega arith
 verdict-few (Hinted k) = omega arith
 verdict-few Sealed = omega arith
-
--- the lines of the steps from k on
-unfoldable pub ahead : List ℕ → List ℕ → ℕ → List ℕ
-ahead z answers k = step_lines (drop k (steps_in z)) (drop k answers) []
 
 -- lines and what follows them
 pub lines_then : (ms : List Step) (answers v : List ℕ) → step_lines ms answers [] ++ v ≡ step_lines ms answers v
@@ -83,38 +79,53 @@ line_first m ms a answers =
     let rest = step_lines ms answers [] in
     sym (field-then m.actor (field m.partner (last_field a [])) rest ∙ ap (field m.actor) (field-then m.partner (last_field a []) rest ∙ ap (field m.partner) (last_then a [] rest)))
 
-module _ (z answers : List ℕ) (r : Script z (length answers)) (k : ℕ) where
-  next-step : k < length answers → drop k (steps_in z) ≡ step_in z k ∷ drop (k + 1) (steps_in z)
-  unfolding steps_in
-  next-step l =
-      let b : k < length (steps_in z) = omega (arith, length-steps z, r.places) in
-      let e : suc k ≡ k + 1 = omega arith in
-      drop-cons (steps_in z) k (step_in z 0) b
-      ∙ ap (λ m. m ∷ drop (suc k) (steps_in z)) (get_d_tabulate (step_in z) 0 (length z / 4) k (step_in z 0) (omega (arith, r.places)) ∙ ap (step_in z) (zero-add k))
-      ∙ ap (λ j. step_in z k ∷ drop j (steps_in z)) e
+-- a step by its four bytes
+unfoldable pub step_of : List ℕ → Step
+step_of b = record { actor = word (byte b 0) (byte b 1); partner = word (byte b 2) (byte b 3) }
 
-  pub ahead-on : k < length answers → (x y : ℕ) → x ≡ word (byte z (4 * k)) (byte z (4 * k + 1)) → y ≡ word (byte z (4 * k + 2)) (byte z (4 * k + 3)) →
-      ahead z answers k ≡ step_line x y (get_or answers k 0) ++ ahead z answers (k + 1)
-  unfolding ahead step_in
-  ahead-on l x y f g =
-      let e : suc k ≡ k + 1 = omega arith in
-      rw (next-step l, drop-cons answers k 0 l, e)
-      (line_first (step_in z k) (drop (k + 1) (steps_in z)) (get_or answers k 0) (drop (k + 1) answers) ∙ rw (← f, ← g))
+byte-chunk : (z : List ℕ) (k j : ℕ) → j < 4 → byte (take 4 (drop (4 * k) z)) j ≡ byte z (4 * k + j)
+byte-chunk z k j l = get_or-take 4 (drop (4 * k) z) j 0 l ∙ get_or-drop (4 * k) z j 0
 
-  pub ahead-room : {t₀ w t : List ℕ} {p q : ℕ} → Putting t₀ p w t q (ahead z answers k) → k < length answers → (x y : ℕ) → x ≡ word (byte z (4 * k)) (byte z (4 * k + 1)) → y ≡ word (byte z (4 * k + 2)) (byte z (4 * k + 3)) →
-      q + length (step_line x y (get_or answers k 0)) ≤ length t
-  ahead-room v l x y f g = putting-room (step_line x y (get_or answers k 0)) (ahead z answers (k + 1)) v (ahead-on l x y f g)
+step-chunk : (z : List ℕ) (k : ℕ) → step_of (take 4 (drop (4 * k) z)) ≡ step_in z k
+unfolding step_of step_in
+step-chunk z k =
+    let e : 4 * k + 0 ≡ 4 * k = omega arith in
+    rw (byte-chunk z k 0 (omega arith), byte-chunk z k 1 (omega arith), byte-chunk z k 2 (omega arith), byte-chunk z k 3 (omega arith), e)
 
-  pub ahead-end : length answers ≤ k → ahead z answers k ≡ []
-  unfolding ahead step_lines
-  ahead-end l =
-      let b : length (steps_in z) ≤ k = omega (arith, length-steps z, r.places) in
-      rw (drop_of_length-le (steps_in z) b)
+-- the steps of a script, four bytes after the other
+steps-from : (z : List ℕ) (n k : ℕ) → map step_of (first_chunks 4 n (drop (4 * k) z)) ≡ tabulate k n (step_in z)
+unfolding tabulate
+steps-from z zero k = refl
+steps-from z (suc n) k =
+    let e : 4 * k + 4 ≡ 4 * suc k = omega arith in
+    let d : drop 4 (drop (4 * k) z) ≡ drop (4 * suc k) z = drop-drop 4 (4 * k) z ∙ ap (λ j. drop j z) e in
+    rw (step-chunk z k, d) (ap (λ ms. step_in z k ∷ ms) (steps-from z n (suc k)))
 
-pub ahead-all : (z answers t : List ℕ) (p : ℕ) → p + length (step_lines (steps_in z) answers []) ≤ length t →
-    Putting t p (step_lines (steps_in z) answers []) t p (ahead z answers 0)
+steps-chunks : (z : List ℕ) → map step_of (first_chunks 4 (length z / 4) z) ≡ steps_in z
+unfolding steps_in
+steps-chunks z = steps-from z (length z / 4) 0
+
+-- the lines of the steps that are left
+unfoldable pub ahead : List (List ℕ) → List ℕ → List ℕ
+ahead steps answers = step_lines (map step_of steps) answers []
+
+pub ahead-on : {steps next : List (List ℕ)} {answers others b : List ℕ} {a x y : ℕ} → (steps ≡ b ∷ next) × (answers ≡ a ∷ others) → x ≡ word (byte b 0) (byte b 1) → y ≡ word (byte b 2) (byte b 3) →
+    ahead steps answers ≡ step_line x y a ++ ahead next others
+unfolding ahead step_of
+ahead-on {next = next} {others = others} {b = b} {a = a} e f g =
+    rw (e.0, e.1) (line_first (step_of b) (map step_of next) a others ∙ rw (← f, ← g))
+
+pub ahead-done : (steps : List (List ℕ)) (answers : List ℕ) → (length steps ≡ 0) ⊎ (length answers ≡ 0) → ahead steps answers ≡ []
+unfolding ahead step_lines
+ahead-done [] answers e = refl
+ahead-done (b ∷ steps) [] e = refl
+ahead-done (b ∷ steps) (a ∷ answers) (inl e) = absurd (omega arith)
+ahead-done (b ∷ steps) (a ∷ answers) (inr e) = absurd (omega arith)
+
+pub ahead-all : (z answers t : List ℕ) (p : ℕ) {steps : List (List ℕ)} {others : List ℕ} → steps ≡ first_chunks 4 (length z / 4) z → others ≡ answers → p + length (step_lines (steps_in z) answers []) ≤ length t →
+    Putting t p (step_lines (steps_in z) answers []) t p (ahead steps others)
 unfolding ahead
-ahead-all z answers t p h = putting-start t p _ h
+ahead-all z answers t p e f h = rw (e, f, steps-chunks z) (putting-start t p _ h)
 
 -- the text of a screen, part by part
 pub listing-parts : (x : Screen) (ms : List Step) (answers : List ℕ) →

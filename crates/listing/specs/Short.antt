@@ -15,7 +15,7 @@ use Rattle.model.specs.Numbers.{label_of}
 use Rattle.model.specs.declared.Rec.{Rec}
 use Rattle.model.specs.declared.Screen.{Screen}
 use Rattle.text_put.specs.Digits.{digits-two}
-use Rattle.text_put.specs.Laws.{field-few, last-length, line-few}
+use Rattle.text_put.specs.Laws.{by-length, by-short, line-few}
 use Rattle.listing.specs.Laws.{counts-few, line_first, listing-parts, step-length, verdict-few}
 use Rattle.listing.specs.Lines.{shown, step_line}
 use Rattle.scripts.specs.Runs.{length-steps, script-of}
@@ -39,7 +39,7 @@ answer-few permit its c b = by-few permit _ its c b
 
 -- a step's line
 line-short : (x y a : ℕ) → a ≤ 12 → length (step_line x y a) ≤ 15
-line-short x y a h = omega (arith, step-length x y a, field-few x, field-few y, last-length a [], digits-two a (omega arith))
+line-short x y a h = omega (arith, step-length x y a, by-short x 32, by-short y 32, by-length a 10, digits-two a (omega arith))
 
 -- the lines of all steps
 lines-short : (s : List ℕ) (ms : List Step) → length (step_lines ms (answers_of permit_all s ms) []) ≤ 15 * length ms
@@ -56,7 +56,7 @@ module _ (s policy z answers : List ℕ) (x : Screen) (d : screen_answer s polic
   unfolding screen_answer
   passes = answer-done (screening s policy z answers) _ x d
 
-  pub done-script : script_right z (length answers) ≡ true
+  done-script : script_right z (length answers) ≡ true
   unfolding screening
   done-script = need-pass _ 13 0 (then-pass _ _ passes).1
 

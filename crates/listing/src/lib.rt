@@ -1,11 +1,11 @@
 // The lines that hubscreen shows, put into a lent text.
 #![tactic(auto)]
 
-ghost use Rattle.std.specs.Prelude.{◌≡◌, ◌+◌, ◌≤◌, length, true, [], ◌++◌};
+ghost use Rattle.std.specs.Prelude.{◌≡◌, ◌+◌, ◌≤◌, length, [], ◌++◌};
 ghost use Rattle.model.specs.Listing.{field, last_field, listing, step_lines, verdict_word};
 ghost use Rattle.model.specs.Numbers.{label_of, refusal};
 ghost use Rattle.model.specs.Refusals.{done};
-ghost use Rattle.model.specs.Scripts.{script_right, steps_in};
+ghost use Rattle.model.specs.Scripts.{steps_in};
 ghost use Rattle.listing.specs.Lines.{count_fields, step_line};
 ghost use Rattle.text_put.specs.Puts.{Put};
 
@@ -16,23 +16,22 @@ fn put_step(text: &mut [u8], at: usize, actor: u16, partner: u16, answer: u8) ->
     requires { at + length (step_line actor partner answer) ≤ length text.old }
     ensures { Put text.old at (step_line actor partner answer) text.new result }
 {
-    let second = text_put::put_field(text, at, actor);
-    let third = text_put::put_field(text, second, partner);
-    text_put::put_last(text, third, answer as u16)
+    let second = text_put::put_field(text, at, actor, b' ');
+    let third = text_put::put_field(text, second, partner, b' ');
+    text_put::put_field(text, third, answer as u16, b'\n')
 }
 
-// Puts a line for each step of a script that was run.
+// Puts a line for each step of a script that has an answer.
 fn put_steps(text: &mut [u8], at: usize, script: &[u8], answers: &[u8]) -> usize
-    requires right { script_right script.now (length answers.now) ≡ true }
-    requires fits { at + length (step_lines (steps_in script.now) answers.now []) ≤ length text.old }
+    requires { at + length (step_lines (steps_in script.now) answers.now []) ≤ length text.old }
     ensures { Put text.old at (step_lines (steps_in script.now) answers.now []) text.new result }
 {
     let mut end = at;
-    for k in 0..answers.len() {
-        let j = 4 * k;
-        let actor = records::word(script[j], script[j + 1]);
-        let partner = records::word(script[j + 2], script[j + 3]);
-        end = put_step(text, end, actor, partner, answers[k]);
+    let (steps, _) = script.as_chunks::<4>();
+    for (step, answer) in steps.iter().zip(answers) {
+        let actor = records::word(step[0], step[1]);
+        let partner = records::word(step[2], step[3]);
+        end = put_step(text, end, actor, partner, *answer);
     }
     end
 }
@@ -43,10 +42,10 @@ fn put_counts(text: &mut [u8], at: usize, s: Screen) -> usize
     ensures { Put text.old at (count_fields s) text.new result }
 {
     let c = s.counts;
-    let outs = text_put::put_field(text, at, c.ins);
-    let opens = text_put::put_field(text, outs, c.outs);
-    let left = text_put::put_field(text, opens, c.opens);
-    text_put::put_last(text, left, s.records)
+    let outs = text_put::put_field(text, at, c.ins, b' ');
+    let opens = text_put::put_field(text, outs, c.outs, b' ');
+    let left = text_put::put_field(text, opens, c.opens, b' ');
+    text_put::put_field(text, left, s.records, b'\n')
 }
 
 // Puts line one: verdict, its label (0 if sealed), bits set.
@@ -71,8 +70,7 @@ pub fn put_refused(text: &mut [u8], r: Refusal) -> usize
 
 // Puts line one, a line for each step, and the last line.
 pub fn put_screen(text: &mut [u8], s: Screen, script: &[u8], answers: &[u8]) -> usize
-    requires right { script_right script.now (length answers.now) ≡ true }
-    requires fits { 48 + length (step_lines (steps_in script.now) answers.now []) ≤ length text.old }
+    requires { 48 + length (step_lines (steps_in script.now) answers.now []) ≤ length text.old }
     ensures { Put text.old 0 (listing (done s) (steps_in script.now) answers.now) text.new result }
 {
     let v = s.verdict;

@@ -1,7 +1,7 @@
 // The types that the contracts name. What they mean is in specs/.
 #![tactic(auto, unfolding(crate::specs::Numbers::number_of, crate::specs::Numbers::unplaced, crate::specs::Records::is_ambient, crate::specs::Records::nested, crate::specs::Records::capability))]
 
-ghost use Rattle.std.specs.Prelude.{◌≡◌};
+ghost use Rattle.std.specs.Prelude.{◌≡◌, eqb};
 ghost use Rattle.model.specs.Numbers.{number_of, unplaced};
 ghost use Rattle.model.specs.Records.{capability, is_ambient, nested};
 
@@ -18,6 +18,13 @@ pub struct Rec {
 }
 
 impl Rec {
+    // Whether it is gone.
+    pub fn is_gone(self) -> bool
+        ensures { result ≡ eqb self.kind 0 }
+    {
+        self.kind == 0
+    }
+
     // Whether it is an ambient.
     pub fn is_ambient(self) -> bool
         ensures { result ≡ is_ambient self }

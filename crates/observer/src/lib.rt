@@ -10,6 +10,7 @@ ghost use Rattle.model.specs.Validity.{validity};
 ghost use Rattle.ways.specs.Ways.{Noting};
 
 use model::Rec;
+use records::Itinerary;
 use tables::Table;
 use ways::Finds;
 
@@ -40,7 +41,8 @@ impl<'a> Finds for Hiding<'a> {
     }
 }
 
-// Takes the hidden records off a sheet that is still the itinerary, with notes to climb by.
+// Takes the hidden records off a sheet that is still the itinerary, with notes to climb by. (The bytes are lent as they are: that
+// each is less than 256 is known of a lent slice, and not of the one in an `Itinerary`.)
 fn hide(it: &[u8], table: &Table, notes: &mut [Option<bool>], sheet: &mut [u8])
     requires valid { validity it.now ≡ pass }
     requires noting { Noting (hiding (suspects table.now)) it.now notes.old }
@@ -68,13 +70,12 @@ fn copy(it: &[u8], sheet: &mut [u8])
 }
 
 // Writes the sheet.
-pub fn write_sheet(it: &[u8], table: &Table, sheet: &mut [u8])
-    requires valid { validity it.now ≡ pass }
-    requires sized { length sheet.old ≡ length it.now }
+pub fn write_sheet(it: &Itinerary, table: &Table, sheet: &mut [u8])
+    requires { length sheet.old ≡ length it.now }
     ensures { sheet.new ≡ sheet_of it.now table.now }
 {
     let mut notes = [None; 1025];
     notes[0] = Some(false);
-    copy(it, sheet);
-    hide(it, table, &mut notes, sheet);
+    copy(it.bytes, sheet);
+    hide(it.bytes, table, &mut notes, sheet);
 }

@@ -5,7 +5,7 @@ ghost use Rattle.std.specs.Prelude.{◌≡◌};
 ghost use Rattle.model.specs.Numbers.{answer_as, check_as};
 ghost use Rattle.model.specs.Records.{decode};
 ghost use Rattle.model.specs.Refusals.{answer, each_of};
-ghost use Rattle.model.specs.Validity.{gone_right, label_right, name_right, parent_right, record_check, spare_right};
+ghost use Rattle.model.specs.Validity.{gone_right, label_in, label_right, name_right, parent_right, record_check, spare_right};
 ghost use Rattle.record_checks.specs.Reading.{form_right};
 
 use model::{Cause, Rec, Refusal};
@@ -38,24 +38,32 @@ fn spare_right(it: &[u8], i: u16) -> bool
 fn gone_right(r: Rec) -> bool
     ensures { result ≡ gone_right r }
 {
-    if r.kind == 0 {
+    if r.is_gone() {
         return (r.label == 0) & ((r.name == 0) & (r.parent == 0));
     }
     true
 }
 
+// Whether a label is in the range of ambients, or of capabilities.
+#[tactic(auto, unfolding(model::specs::Validity::label_in))]
+pub fn label_in(ambient: bool, label: u16) -> bool
+    ensures { result ≡ label_in ambient label }
+{
+    if ambient {
+        return (1 <= label) & (label <= 63);
+    }
+    (64 <= label) & (label <= 127)
+}
+
 // Whether the label is right for the kind.
-#[tactic(auto, unfolding(model::specs::Validity::label_right, model::specs::Validity::label_by, model::specs::Validity::label_in))]
+#[tactic(auto, unfolding(model::specs::Validity::label_right, model::specs::Validity::label_by))]
 fn label_right(r: Rec) -> bool
     ensures { result ≡ label_right r }
 {
     if !r.is_nested() {
         return r.label == 0;
     }
-    if r.is_ambient() {
-        return (1 <= r.label) & (r.label <= 63);
-    }
-    (64 <= r.label) & (r.label <= 127)
+    label_in(r.is_ambient(), r.label as u16)
 }
 
 // Whether the name is right for the kind.

@@ -1,6 +1,6 @@
 -- One climb of a view, where the record is read from bytes.
-use Rattle.std.specs.Prelude.{◌%◌, ◌+◌, ◌-◌, ◌/◌, suc, ℕ, length, replicate, false, true, List, ◌≢◌, ◌≡◌}
-use Rattle.std.proofs.Common.{eq-eqb, eqb-true, ne_eqb, ◌∙◌, ap, sym, arith}
+use Rattle.std.specs.Prelude.{◌%◌, ◌+◌, ◌-◌, ◌/◌, suc, ℕ, length, true, List, ◌≢◌, ◌≡◌}
+use Rattle.std.proofs.Common.{eq-eqb, eqb-true, ◌∙◌, ap, sym, arith}
 use Rattle.model.specs.Climbing.{View, view, view_from}
 use Rattle.model.proofs.Laws.Bytes.{at-whole, length-records}
 use Rattle.model.proofs.Laws.Views.{from-lost, from_on, from-top}
@@ -34,11 +34,3 @@ ambient-is r e = eq-eqb _ _ e
 pub ambient-kind : (r : Rec) → is_ambient r ≡ true → r.kind ≡ 1
 unfolding is_ambient
 ambient-kind r e = eqb-true _ _ e
-
-pub ambient-not : (r : Rec) → r.kind ≢ 1 → is_ambient r ≡ false
-unfolding is_ambient
-ambient-not r h = ne_eqb _ _ h
-
--- marks for k numbers, none of them made
-abbrev pub zeros : ℕ → List ℕ
-zeros k = replicate k 0

@@ -2,11 +2,39 @@
 #![tactic(auto)]
 
 ghost use Rattle.std.specs.Prelude.{◌≡◌, ◌*◌, ◌<◌, ◌≤◌, length};
-ghost use Rattle.model.specs.Records.{byte_of, decode, gone, word};
+ghost use Rattle.model.specs.Records.{byte_of, count, decode, gone, word};
 ghost use Rattle.model.specs.Steps.{to};
 ghost use Rattle.records.specs.Written.{with_record};
 
 use model::Rec;
+use std::marker::Model;
+
+// An itinerary that is known to be valid.
+#[derive(Drop)]
+pub struct Itinerary<'a> {
+    pub bytes: &'a [u8],
+}
+
+impl<'a> Model for Itinerary<'a> {
+    ghost use Rattle.std.specs.Prelude.{◌≡◌, ℕ, List};
+    ghost use Rattle.model.specs.Refusals.{pass};
+    ghost use Rattle.model.specs.Validity.{validity};
+
+    ghost Value = { List ℕ };
+
+    ghost view = { λ a. a.bytes.now };
+
+    ghost invariant = { λ a. validity a.bytes.now ≡ pass };
+}
+
+impl<'a> Itinerary<'a> {
+    // How many records it has.
+    pub fn count(&self) -> u16
+        ensures { result ≡ count self.now }
+    {
+        (self.bytes.len() / 8) as u16
+    }
+}
 
 // How many bytes the longest itinerary has: 1,024 records of 8.
 pub const LONGEST: usize = 8192;
@@ -27,10 +55,11 @@ pub fn byte_of(it: &[u8], i: u16, k: usize) -> u8
 pub fn word(low: u8, high: u8) -> u16
     ensures { result ≡ word low high }
 {
-    (low as u16) + 256 * (high as u16)
+    u16::from_le_bytes([low, high])
 }
 
-// Record i byte by byte, for the environment and past the last whole record.
+// Record i byte by byte, for the environment and past the last whole record. (The one form for all records would test the
+// length for each byte; `record_at` is the most frequent call of all.)
 fn edge_at(it: &[u8], i: u16) -> Rec
     ensures { result ≡ decode it.now i }
 {

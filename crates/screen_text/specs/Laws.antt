@@ -1,15 +1,15 @@
 -- The text that is filled is the one shown, for a screen that is done and for one that is refused.
-use Rattle.std.specs.Prelude.{◌+◌, ◌≤◌, ℕ, drop, length, true, List, [], ◌≡◌}
+use Rattle.std.specs.Prelude.{◌+◌, ◌≤◌, ℕ, drop, length, List, [], ◌≡◌}
 use Rattle.std.specs.Prelude.{Result, Ok, Err}
 use Rattle.std.proofs.Common.{length-append, length-drop, ◌∙◌, arith}
 use Rattle.std.proofs.Math.Path.{ap, sym}
 use Rattle.listing.specs.Lines.{shown}
-use Rattle.listing.specs.Short.{done-script, done-short, shown-short}
+use Rattle.listing.specs.Short.{done-short, shown-short}
 use Rattle.model.specs.Calls.{screen_answer, screen_answers}
 use Rattle.model.specs.Listing.{listing, step_lines}
 use Rattle.model.specs.Numbers.{answer_as, refusal}
 use Rattle.model.specs.Refusals.{done}
-use Rattle.model.specs.Scripts.{script_right, steps_in}
+use Rattle.model.specs.Scripts.{steps_in}
 use Rattle.model.specs.declared.Refusal.{Refusal}
 use Rattle.model.specs.declared.Screen.{Screen}
 use Rattle.text_put.specs.Laws.{put_as, put-over}
@@ -22,8 +22,8 @@ module _ (s policy z a : List ℕ) (r : Result Screen Refusal) (e : answer_as r 
     is-done = sym e ∙ ap answer_as d
 
     -- there is room for all lines of a screen that is done
-    pub room-done : length a' ≡ length a → (n : ℕ) → 15408 ≤ n → (script_right z (length a') ≡ true) × (48 + length (step_lines (steps_in z) a' []) ≤ n)
-    room-done k n h = (rw k (done-script s policy z a x is-done), rw f (omega (arith, done-short s policy z a x is-done)))
+    pub room-done : (n : ℕ) → 15408 ≤ n → 48 + length (step_lines (steps_in z) a' []) ≤ n
+    room-done n h = rw f (omega (arith, done-short s policy z a x is-done))
 
     pub text-done : {t t' : List ℕ} {n : ℕ} → Put t 0 (listing (done x) (steps_in z) a') t' n → (n ≡ length (shown s policy z a)) × (t' ≡ over (shown s policy z a) t)
     unfolding shown

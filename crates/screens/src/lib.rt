@@ -6,6 +6,7 @@ ghost use Rattle.model.specs.Calls.{screen_after, screen_answer, screen_answers,
 ghost use Rattle.model.specs.Refusals.{done, pass};
 
 use model::Screen;
+use records::Itinerary;
 use tables::{Policy, Table};
 
 // The screen with a lent table to make.
@@ -21,7 +22,7 @@ fn screen_with(
     ensures itinerary { it.new ≡ screen_after it.old policy.now script.now answers.old }
     ensures answers { answers.new ≡ screen_answers it.old policy.now script.now answers.old }
 {
-    let ones = table_least::write_least(it, policy, table);
+    let ones = table_least::write_least(&Itinerary { bytes: it }, policy, table);
     let verdict = verdicts::verdict_of(policy, table);
     let counts = scripts::run(it, script, answers);
     Screen {

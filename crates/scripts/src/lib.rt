@@ -1,4 +1,4 @@
-// Running a script on a valid itinerary.
+// Running a script on a valid itinerary. (It is a clause that it is valid, and no `Itinerary`: that would lend what is written.)
 #![tactic(auto)]
 
 ghost use Rattle.std.specs.Prelude.{◌≡◌, ◌%◌, ◌+◌, ◌<◌, ◌≤◌, true, length};
@@ -12,7 +12,7 @@ ghost use Rattle.model.specs.Steps.{answer_of};
 ghost use Rattle.model.specs.Validity.{validity};
 ghost use Rattle.scripts.specs.Counted.{counted};
 
-use model::{Capability, Cause, Counts, Refusal};
+use model::{Capability, Cause, Counts, Rec, Refusal};
 
 // Whether a script has whole steps, not too many, and a place for the answer of each.
 fn script_right(script: &[u8], room: usize) -> bool
@@ -38,7 +38,7 @@ fn word_at(script: &[u8], j: usize) -> u16
     records::word(script[j], script[j + 1])
 }
 
-// The answer byte of a step.
+// The answer byte of a step. (A From would be for a Result and a byte, neither of which is ours.)
 #[tactic(auto, unfolding(model::specs::Numbers::outcome_as, model::specs::Steps::answer_of))]
 fn number_of(outcome: Result<Capability, Cause>) -> u8
     ensures { result ≡ answer_of (outcome_as outcome) }
@@ -98,13 +98,13 @@ pub fn run(it: &mut [u8], script: &[u8], answers: &mut [u8]) -> Counts
     c
 }
 
-// One for a kind that is not gone's.
-#[tactic(auto, unfolding(model::specs::Finite::one_if))]
-fn present(kind: u8) -> u16
-    ensures counted { result ≡ one_if (unequal kind 0) }
+// One for a record that is not gone.
+#[tactic(auto, unfolding(model::specs::Finite::one_if, model::specs::Finite::unequal))]
+fn present(r: Rec) -> u16
+    ensures counted { result ≡ one_if (unequal r.kind 0) }
     ensures one_at_most { result ≤ 1 }
 {
-    if kind == 0 { 0 } else { 1 }
+    if r.is_gone() { 0 } else { 1 }
 }
 
 // How many records are not gone.
@@ -115,7 +115,7 @@ pub fn not_gone(it: &[u8]) -> u16
 {
     let mut sum: u16 = 0;
     for i in 0..(it.len() / 8) as u16 {
-        sum += present(records::byte_of(it, i + 1, 0));
+        sum += present(records::record_at(it, i + 1));
     }
     sum
 }

@@ -1,24 +1,25 @@
 -- Laws of the decided step: that its one pass is the step of the definitions.
-use Rattle.std.specs.Prelude.{◌%◌, ◌≤◌, suc, ℕ, eqb, length, Bool, ◌&&◌, ◌||◌, ◌≢◌, ◌≡◌}
-use Rattle.std.proofs.Common.{true≢false, ◌∙◌, arith}
+use Rattle.std.specs.Prelude.{◌%◌, suc, ℕ, eqb, length, Bool, ◌&&◌, ◌||◌, ◌≢◌, ◌≡◌}
+use Rattle.std.proofs.Common.{true≢false, ◌∙◌}
 use Rattle.std.proofs.lemmas.Bool.{eqb-false}
 use Rattle.std.proofs.Math.Bool.{false, true}
 use mathlib.Core.List.{List, [], ◌∷◌}
 use Rattle.std.specs.Prelude.{None, Some}
 use Rattle.std.proofs.Math.Path.{ap, refl, sym}
-use Rattle.std.proofs.Math.Decide.{ℕ_discrete}
 use Rattle.model.specs.Analysis.{permit_all}
 use Rattle.model.specs.Climbing.{ambients}
-use Rattle.model.proofs.Laws.Updates.{dissolved-moved, dissolved-self, dissolved-stays, placed-other}
+use Rattle.model.proofs.Laws.Updates.{dissolved-stays, placed-other}
 use Rattle.model.proofs.Laws.Bytes.{at-whole, valid-wf, valid-whole}
 use Rattle.model.proofs.Laws.Done.{Done, cap-pos, done-other, in-live, open-beside, out-live, outcome-done, partner-pos}
 use Rattle.model.proofs.Laws.WellFormed.{WellFormed, dissolve-parent-stays, parent-not-self, place-parent-other}
 use Rattle.model.specs.Records.{at, capability, decode, encode, is_ambient, parent_of, records, update, update_from}
 use Rattle.model.specs.Refusals.{pass}
-use Rattle.model.specs.Steps.{Outcome, done-by, refused-with, decide, dissolve, dissolved, fit, move, outcome, outcome_by, place, placed, ready, rewritten, stands, step_bytes, to}
+use Rattle.model.specs.Steps.{Outcome, done-by, refused-with, decide, dissolve, dissolved, fit, move, outcome, outcome_by, place, placed, ready, rewritten, stands, step_bytes}
 use Rattle.model.specs.Validity.{validity}
 use Rattle.model.specs.declared.Rec.{Rec}
-use Rattle.steps.specs.Moves.{applied, fit_by, move_by, remade, stands_by, touched_by}
+use Rattle.steps.specs.Moves.{applied, changed, changes, fit_by, move_by, remade, stands_by, touched_by}
+use Rattle.steps.specs.declared.Change.{Change}
+use Rattle.steps.specs.declared.Change.TheVariants.{Opens, To}
 use Rattle.steps.specs.declared.Move.{Move}
 use Rattle.model.specs.declared.Capability.{Capability}
 use Rattle.model.specs.declared.Capability.TheVariants.{In as cap-in, Open as cap-open, Out as cap-out}
@@ -98,52 +99,38 @@ module _ (f g : ℕ → Rec → Rec) where
   from-twice n [] = refl
   from-twice n (r ∷ rs) = ap (λ l. g n (f n r) ∷ l) (from-twice (suc n) rs)
 
-  from-same : (n : ℕ) → ((i : ℕ) → n ≤ i → (r : Rec) → f i r ≡ g i r) → (its : List Rec) → update_from f n its ≡ update_from g n its
-  unfolding update_from
-  from-same n h [] = refl
-  from-same n h (r ∷ rs) = ap (λ x. x ∷ update_from f (suc n) rs) (h n (omega arith) r) ∙ ap (λ l. g n r ∷ l) (from-same (suc n) (λ i l. h i (omega arith)) rs)
-
 or-none : (a b : Bool) → (a || b) ≡ false → (a ≡ false) × (b ≡ false)
 or-none true b h = absurd (true≢false h)
 or-none false b h = (refl, h)
 
--- a record that a move doesn't touch is left as it is
+-- a record that a change doesn't change is left as it is
+kept : (x : Change) (q i : ℕ) (r : Rec) → changes x q i r.parent ≡ false → changed x q i r ≡ r
+unfolding changes changed
+kept (To t) q i r h = placed-other q t i r (eqb-false _ _ h)
+kept (Opens b) q i r h = let a = or-none (eqb i b) _ h in dissolved-stays b q i r (eqb-false _ _ a.0) (eqb-false _ _ a.1)
+
+-- so is one that a move doesn't touch
 pub untouched : (m : Move) (i : ℕ) (r : Rec) → touched_by m i r.parent ≡ false → remade m i r ≡ r
 unfolding touched_by remade
 untouched m i r h =
     let a = or-none (eqb i m.actor) _ h in
-    let b = or-none (eqb i m.opened) _ a.1 in
-    let c = or-none (eqb i m.mover) _ b.1 in
-    let d = or-none (eqb r.parent m.actor) _ c.1 in
-    ap (λ x. dissolved m.actor m.home i (dissolved m.opened m.home i x)) (placed-other m.mover m.dest i r (eqb-false _ _ c.0))
-    ∙ ap (dissolved m.actor m.home i) (dissolved-stays m.opened m.home i r (eqb-false _ _ b.0) (eqb-false _ _ d.1))
-    ∙ dissolved-stays m.actor m.home i r (eqb-false _ _ a.0) (eqb-false _ _ d.0)
-
--- taken out twice is taken out once
-dissolved-twice : (x q i : ℕ) (r : Rec) → q ≢ x → dissolved x q i (dissolved x q i r) ≡ dissolved x q i r
-dissolved-twice x q i r h = go (ℕ_discrete i x) (ℕ_discrete r.parent x)
-  where
-    go : Dec (i ≡ x) → Dec (r.parent ≡ x) → dissolved x q i (dissolved x q i r) ≡ dissolved x q i r
-    go (yes e) _ = dissolved-self x q i _ e ∙ sym (dissolved-self x q i r e)
-    go (no e) (yes p) = ap (dissolved x q i) (dissolved-moved x q i r e p) ∙ dissolved-stays x q i (to q r) e h ∙ sym (dissolved-moved x q i r e p)
-    go (no e) (no p) = ap (dissolved x q i) (dissolved-stays x q i r e p)
+    let b = or-none (eqb r.parent m.actor) _ a.1 in
+    ap (dissolved m.actor m.home i) (kept m.change m.home i r b.1) ∙ dissolved-stays m.actor m.home i r (eqb-false _ _ a.0) (eqb-false _ _ b.0)
 
 -- the one pass is the move
-module _ {its : List Rec} (wf : WellFormed its) (c : ℕ) (z : c ≢ 0) where
-  carry : (a t : ℕ) → parent_of (place a t its) c ≡ parent_of its c →
-      applied (record { actor = c; home = parent_of its c; mover = a; dest = t; opened = c }) its ≡ dissolve c (place a t its)
-  unfolding applied remade dissolve place
-  carry a t e =
-      from-same _ _ 1 (λ i _ r. dissolved-twice c (parent_of its c) i (placed a t i r) (parent-not-self wf c z)) its
-      ∙ sym (from-twice (placed a t) (dissolved c (parent_of its c)) 1 its)
-      ∙ ap (λ p. update (dissolved c p) (update (placed a t) its)) (sym e)
+module _ {its : List Rec} (wf : WellFormed its) (c : ℕ) where
+  carry : (t : ℕ) → parent_of (place (parent_of its c) t its) c ≡ parent_of its c →
+      applied (record { actor = c; home = parent_of its c; change = To t }) its ≡ dissolve c (place (parent_of its c) t its)
+  unfolding applied remade changed dissolve place
+  carry t e =
+      sym (from-twice (placed (parent_of its c) t) (dissolved c (parent_of its c)) 1 its)
+      ∙ ap (λ p. update (dissolved c p) (update (placed (parent_of its c) t) its)) (sym e)
 
   free-both : (b : ℕ) → b ≢ 0 → parent_of its b ≡ parent_of its c → c ≢ b →
-      applied (record { actor = c; home = parent_of its c; mover = 0; dest = 0; opened = b }) its ≡ dissolve c (dissolve b its)
-  unfolding applied remade dissolve
+      applied (record { actor = c; home = parent_of its c; change = Opens b }) its ≡ dissolve c (dissolve b its)
+  unfolding applied remade changed dissolve
   free-both b y e n =
-      from-same _ _ 1 (λ i l r. ap (λ x. dissolved c (parent_of its c) i (dissolved b (parent_of its c) i x)) (placed-other 0 0 i r (λ u. omega arith))) its
-      ∙ sym (from-twice (dissolved b (parent_of its c)) (dissolved c (parent_of its c)) 1 its)
+      sym (from-twice (dissolved b (parent_of its c)) (dissolved c (parent_of its c)) 1 its)
       ∙ ap (λ p. update (dissolved c (parent_of its c)) (update (dissolved b p) its)) (sym e)
       ∙ ap (λ p. update (dissolved c p) (update (dissolved b (parent_of its b)) its)) (sym (dissolve-parent-stays wf b y c n (λ u. parent-not-self wf b y (e ∙ u))))
 
@@ -152,11 +139,11 @@ module _ {its : List Rec} (wf : WellFormed its) {c b : ℕ} where
   unfolding move_by move
   applied-move cap-in d =
       let z = cap-pos wf cap-in d in
-      carry wf c z (parent_of its c) b (place-parent-other wf (parent_of its c) b (in-live wf d) c (λ e. parent-not-self wf c z (sym e)))
+      carry wf c b (place-parent-other wf (parent_of its c) b (in-live wf d) c (λ e. parent-not-self wf c z (sym e)))
   applied-move cap-out d =
       let z = cap-pos wf cap-out d in
-      carry wf c z (parent_of its c) (parent_of its b) (place-parent-other wf (parent_of its c) (parent_of its b) (out-live wf d) c (λ e. parent-not-self wf c z (sym e)))
-  applied-move cap-open d = free-both wf c (cap-pos wf cap-open d) b (partner-pos wf cap-open d) (open-beside wf d) (done-other wf d)
+      carry wf c (parent_of its b) (place-parent-other wf (parent_of its c) (parent_of its b) (out-live wf d) c (λ e. parent-not-self wf c z (sym e)))
+  applied-move cap-open d = free-both wf c b (partner-pos wf cap-open d) (open-beside wf d) (done-other wf d)
 
 -- what a step leaves
 module _ (s : List ℕ) (c b : ℕ) where
@@ -172,8 +159,3 @@ module _ (s : List ℕ) (c b : ℕ) where
       let p = ap (λ r. r.parent) (ec ∙ sym (at-whole s w c)) in
       let q = ap (λ r. r.parent) (eb ∙ sym (at-whole s w b)) in
       rw (em, p, q, e) (ap encode (applied-move (valid-wf s v) k (outcome-done k e)))
-
--- a record remade, from the three records on the way
-pub remade-is : (m : Move) (i : ℕ) (r x y z : Rec) → x ≡ placed m.mover m.dest i r → y ≡ dissolved m.opened m.home i x → z ≡ dissolved m.actor m.home i y → z ≡ remade m i r
-unfolding remade
-remade-is m i r x y z ex ey ez = ez ∙ ap (dissolved m.actor m.home i) (ey ∙ ap (dissolved m.opened m.home i) ex)

@@ -1,4 +1,5 @@
-// Steps of the ambient calculus on a valid itinerary, in place.
+// Steps of the ambient calculus on a valid itinerary, in place. (It is a clause that it is valid, and no `Itinerary`: that would
+// lend what is written.)
 #![tactic(auto)]
 
 ghost use Rattle.std.specs.Prelude.{◌≡◌, ◌%◌, ◌*◌, ◌≤◌, length};
@@ -9,19 +10,23 @@ ghost use Rattle.model.specs.Refusals.{pass};
 ghost use Rattle.model.specs.Steps.{dissolved, outcome, placed, ready, step_bytes};
 ghost use Rattle.model.specs.Validity.{validity};
 ghost use Rattle.records.specs.Written.{with_record};
-ghost use Rattle.steps.specs.Moves.{applied, fit_by, move_by, remade, stands_by, touched_by};
+ghost use Rattle.steps.specs.Moves.{applied, changed, changes, fit_by, move_by, remade, stands_by, touched_by};
 
 use model::{Capability, Cause, Rec};
 
-// A step that is decided. The actor goes, and so does opened, which is the actor again where nothing is opened; the
-// children of both go to home; mover, which is 0 where none moves, goes to dest.
+// What a step changes beside its actor: it gives home another parent, or opens an ambient, which goes.
+#[derive(Clone, Copy)]
+enum Change {
+    To(u16),
+    Opens(u16),
+}
+
+// A step that is decided. The actor goes, and its children go to home, its parent, as do those of what is opened.
 #[derive(Clone, Copy)]
 struct Move {
     pub actor: u16,
     pub home: u16,
-    pub mover: u16,
-    pub dest: u16,
-    pub opened: u16,
+    pub change: Change,
 }
 
 // Whether the actor's parent is an ambient where it must be, and all above the actor are.
@@ -81,28 +86,15 @@ fn decide(it: &[u8], actor: u16, partner: u16) -> Result<Capability, Cause>
 fn move_of(k: Capability, actor: u16, partner: u16, home: u16, above: u16) -> Move
     ensures { result ≡ move_by k actor partner home above }
 {
-    match k {
-        Capability::In => Move {
-            actor,
-            home,
-            mover: home,
-            dest: partner,
-            opened: actor,
-        },
-        Capability::Out => Move {
-            actor,
-            home,
-            mover: home,
-            dest: above,
-            opened: actor,
-        },
-        Capability::Open => Move {
-            actor,
-            home,
-            mover: 0,
-            dest: 0,
-            opened: partner,
-        },
+    let change = match k {
+        Capability::In => Change::To(partner),
+        Capability::Out => Change::To(above),
+        Capability::Open => Change::Opens(partner),
+    };
+    Move {
+        actor,
+        home,
+        change,
     }
 }
 
@@ -129,13 +121,34 @@ fn dissolved(x: u16, q: u16, i: u16, r: Rec) -> Rec
     r
 }
 
+// Record i as the change leaves it.
+#[tactic(auto, unfolding(crate::specs::Moves::changed))]
+fn changed(change: Change, home: u16, i: u16, r: Rec) -> Rec
+    ensures { result ≡ changed change home i r }
+{
+    match change {
+        Change::To(dest) => placed(home, dest, i, r),
+        Change::Opens(opened) => dissolved(opened, home, i, r),
+    }
+}
+
 // Record i as after the move.
+#[tactic(auto, unfolding(crate::specs::Moves::remade))]
 fn remade(m: Move, i: u16, r: Rec) -> Rec
     ensures { result ≡ remade m i r }
 {
-    let moved = placed(m.mover, m.dest, i, r);
-    let freed = dissolved(m.opened, m.home, i, moved);
-    dissolved(m.actor, m.home, i, freed)
+    dissolved(m.actor, m.home, i, changed(m.change, m.home, i, r))
+}
+
+// Whether the change changes record i, whose parent is p.
+#[tactic(auto, unfolding(crate::specs::Moves::changes))]
+fn changes(change: Change, home: u16, i: u16, p: u16) -> bool
+    ensures { result ≡ changes change home i p }
+{
+    match change {
+        Change::To(_) => i == home,
+        Change::Opens(opened) => (i == opened) | (p == opened),
+    }
 }
 
 // Whether the move changes record i, whose parent is p.
@@ -143,12 +156,14 @@ fn remade(m: Move, i: u16, r: Rec) -> Rec
 fn touched(m: Move, i: u16, p: u16) -> bool
     ensures { result ≡ touched_by m i p }
 {
-    (i == m.actor) | ((i == m.opened) | ((i == m.mover) | ((p == m.actor) | (p == m.opened))))
+    (i == m.actor) | ((p == m.actor) | changes(m.change, m.home, i, p))
 }
 
 // Record i of the bytes as after the move. A record that the move leaves is not written.
 fn remake(it: &mut [u8], m: Move, i: u16)
-    requires { (1 ≤ i) × (8 * i ≤ length it.old) × (with_record it.old i (decode it.old i) ≡ it.old) }
+    requires some { 1 ≤ i }
+    requires inside { 8 * i ≤ length it.old }
+    requires whole { with_record it.old i (decode it.old i) ≡ it.old }
     ensures { it.new ≡ with_record it.old i (remade m i (decode it.old i)) }
 {
     let p = records::parent_of(it, i);

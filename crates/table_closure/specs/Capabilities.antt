@@ -1,6 +1,7 @@
 -- The capability labels in I, which stand in the odd words, counted.
 use Rattle.std.specs.Prelude.{◌*◌, ◌+◌, ◌<◌, ◌≤◌, suc, zero, ℕ, get_or, List, ◌≡◌, refl}
 use Rattle.std.specs.Int.Count.{ones}
+use Rattle.std.specs.List.{fold, range_with_len, sum_by}
 use Rattle.std.proofs.lemmas.Nat.{ones-le}
 use Rattle.std.proofs.Common.{⊎_elim, ◌∙◌, ap, sym, eq-or-lt_of_le, le_of_suc-le-suc, le_refl, not-suc-le-zero, add-one, arith}
 use Rattle.model.proofs.Laws.Bit.{Fewer, fewer}
@@ -26,6 +27,16 @@ pub capabilities-le : (w : List ℕ) (n : ℕ) → Narrow 64 w → capabilities 
 unfolding capabilities
 capabilities-le w zero h = le_refl 0
 capabilities-le w (suc n) h = let a = capabilities-le w n h in let b = ones-le 64 (get_or w (1 + 2 * n) 0) (h (1 + 2 * n)) in omega arith
+
+capabilities-fold : (w : List ℕ) (k n a : ℕ) → fold (λ a i. a + ones (get_or w (1 + 2 * i) 0)) a (range_with_len k n) + capabilities w k ≡ a + capabilities w (k + n)
+capabilities-fold w k zero a = ap (λ (m : ℕ). a + capabilities w m) (omega arith)
+capabilities-fold w k (suc n) a =
+    let f = capabilities-fold w (k + 1) n (a + ones (get_or w (1 + 2 * k) 0)) in
+    let g = capabilities-next w k in
+    let e = ap (capabilities w) {x = k + 1 + n} {y = k + suc n} (omega arith) in omega arith
+
+pub capabilities-sum : (w : List ℕ) → sum_by (λ i. ones (get_or w (1 + 2 * i) 0)) (range_with_len 0 64) ≡ capabilities w 64
+capabilities-sum w = let f = capabilities-fold w 0 64 0 in let z = capabilities-none w in omega arith
 
 pub record FewerCapabilities (w w' : List ℕ) (n : ℕ) : Type 0 where
   pub le : capabilities w n ≤ capabilities w' n

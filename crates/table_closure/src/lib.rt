@@ -23,7 +23,8 @@ fn sweep(w: &mut Words, movers: &Kinds, dirty_before: u64) -> u64
 {
     let mut dirty: u64 = 0;
     for p in 0..64 {
-        if (dirty_before | dirty) & (w[2 * p] | (1u64 << p)) != 0 {
+        let changed = dirty_before | dirty;
+        if changed & (w[2 * p] | (1u64 << p)) != 0 {
             dirty |= table_rows::close_row(w, movers, p);
         }
     }
@@ -36,6 +37,7 @@ fn to_fixpoint(w: &mut Words, movers: &Kinds)
     ensures narrow { Narrow 64 w.new }
 {
     let mut dirty: u64 = u64::MAX;
+    // Until a sweep changes nothing: no range and no list tells beforehand how often that is.
     loop {
         let changed = sweep(w, movers, dirty);
         if changed == 0 {
@@ -49,11 +51,7 @@ fn to_fixpoint(w: &mut Words, movers: &Kinds)
 fn count_capabilities(w: &Words) -> u32
     ensures { result ≡ capabilities w.now 64 }
 {
-    let mut sum = 0;
-    for label in 0..64 {
-        sum += w[1 + 2 * label].count_ones();
-    }
-    sum
+    (0..64).map(|label| w[1 + 2 * label].count_ones()).sum()
 }
 
 // Grows I to the least one around it that has all rules, and fills in its movers. Only the rule of open adds
@@ -63,6 +61,7 @@ fn close_nesting(w: &mut Words, partners: &Kinds, movers: &mut Kinds)
     ensures { NestingGrown partners.now movers.new (Bits w.old) (Bits w.new) }
 {
     let mut count = count_capabilities(w);
+    // Until no capability is new, as above.
     loop {
         table_movers::movers_of(w, partners, movers);
         to_fixpoint(w, movers);

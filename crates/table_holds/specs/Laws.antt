@@ -1,7 +1,11 @@
 -- The parts of the check make up when a table holds.
 use Rattle.std.specs.Prelude.{◌+◌, ◌<◌, ◌≤◌, ℕ, length, Bool, false, true, List, ◌≡◌}
-use borrow.Author.Tests.{leb-true}
-use Rattle.std.proofs.Common.{true≢false, ◌∙◌, ap₂, sym, arith}
+use borrow.Author.Tests.{eq-eqb, eqb-true, leb-true}
+use Rattle.std.proofs.Common.{true≢false, ◌∙◌, ap, ap₂, subst, sym, arith}
+use Rattle.std.proofs.lemmas.List.FromFn.{get_or-enumerate_from, length-enumerate_from}
+use Rattle.std.specs.Bool.{MatchBool}
+use Rattle.std.specs.List.{AllWithin, HoldsAt, enumerate_from}
+use Rattle.tables.specs.Loops.{all_pass, one-fails}
 use Rattle.table_holds.specs.Tests.{nesting_holds, stood}
 use Rattle.model.specs.Analysis.{permit_all, holds, only_if}
 use Rattle.model.specs.Climbing.{container, nesting, view}
@@ -94,3 +98,26 @@ module _ (T : Table) (c : ℕ) (r : Rec) where
   pub stood-ambient : T.I c r.label ≡ true → is_ambient r ≡ true → T.H r.label r.name ≡ stood T c r
   unfolding stood only_if
   stood-ambient h k = rw (h, k)
+
+-- ---- the classes, one by one
+
+-- a label that is suspect if it is high; one that is high and isn't
+abbrev pub HighHeld : (ℕ → Bool) → ℕ × ℕ → Type 0
+HighHeld S p = p.1 ≡ 1 → S p.0 ≡ true
+
+abbrev pub HighLeft : (ℕ → Bool) → ℕ × ℕ → Type 0
+HighLeft S p = (p.1 ≡ 1) × (S p.0 ≡ false)
+
+-- what `all` answers of a policy's labels with their classes
+pub highs : (policy : List ℕ) (S : ℕ → Bool) (r : Bool) → length policy ≡ 64 →
+    MatchBool r (AllWithin (HighHeld S) (enumerate_from 0 policy) 0 (length (enumerate_from 0 policy))) ((k : ℕ) × (k < length (enumerate_from 0 policy)) × HoldsAt (HighLeft S) (enumerate_from 0 policy) k) → r ≡ every 64 (is_high policy) S
+unfolding is_high
+highs policy S true e h = all_pass 64 (is_high policy) S (λ k l t.
+    let m : k < length policy = omega (arith, e) in
+    let z : k ≡ 0 + k = omega arith in
+    ap S z ∙ subst (HighHeld S) (get_or-enumerate_from 0 policy k (0, 0) m) (h k (0, 0) (omega arith) (omega (arith, length-enumerate_from 0 policy))) (eqb-true _ _ t))
+highs policy S false e h =
+    let m : h.0 < length policy = omega (arith, h.1, length-enumerate_from 0 policy) in
+    let f = subst (HighLeft S) (get_or-enumerate_from 0 policy h.0 (0, 0) m) (h.2 (0, 0)) in
+    let z : h.0 ≡ 0 + h.0 = omega arith in
+    one-fails 64 (is_high policy) S h.0 (omega (arith, e)) (eq-eqb _ _ f.0) (ap S z ∙ f.1)

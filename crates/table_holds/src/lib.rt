@@ -4,28 +4,21 @@
 ghost use Rattle.std.specs.Prelude.{◌≡◌, true, ◌<◌};
 ghost use Rattle.model.specs.Analysis.{permit_all, holds};
 ghost use Rattle.model.specs.Finite.{every};
-ghost use Rattle.model.specs.Validity.{shape, validity};
+ghost use Rattle.model.specs.Validity.{shape};
 ghost use Rattle.model.specs.Records.{records};
-ghost use Rattle.model.specs.Refusals.{pass};
 ghost use Rattle.model.specs.Tables.{bits, is_high, parts, suspects};
 ghost use Rattle.table_holds.specs.Tests.{nesting_holds, stood};
-ghost use Rattle.enclosures.specs.Notes.{Nearests};
 
-use model::{Above, Rec};
+use model::Rec;
+use records::Itinerary;
 use tables::{HIGH, Policy, Table};
 
 // Whether every high label is suspect.
 fn highs_hold(policy: &Policy, table: &Table) -> bool
     ensures { result ≡ every 64 (is_high policy.now) (suspects table.now) }
 {
-    for k in 0..64 {
-        if policy[k] == HIGH {
-            if !tables::bit(table, tables::SUSPECTS + k) {
-                return false;
-            }
-        }
-    }
-    true
+    policy.iter().enumerate().all(|(k, &class)| class != HIGH
+        || tables::bit(table, tables::SUSPECTS + k))
 }
 
 // Whether a record may stand in its container and, if an ambient, bear its name.
@@ -44,15 +37,15 @@ fn stands(r: Rec, table: &Table, container: u8) -> bool
     tables::bit(table, tables::NAMES + (64 * label + (r.name as usize)))
 }
 
-// Whether every ambient and capability may stand where it stands and every ambient bear its name, with what encloses each
-// number.
-fn nesting_holds_by(it: &[u8], table: &Table, notes: &[Option<Above>]) -> bool
-    requires valid { validity it.now ≡ pass }
-    requires nearests { Nearests it.now notes.now }
+// Whether every ambient and capability may stand where it stands and every ambient bear its name.
+fn nesting_holds(it: &Itinerary, policy: &Policy, table: &Table) -> bool
     ensures { result ≡ nesting_holds (records it.now) (parts (bits table.now)) }
 {
-    for i in 0..(it.len() / 8) as u16 {
-        let r = records::record_at(it, i + 1);
+    let bytes = it.bytes;
+    let mut notes = enclosures::notes();
+    enclosures::enclose(it, policy, &mut notes);
+    for i in 0..it.count() {
+        let r = records::record_at(bytes, i + 1);
         if r.is_nested() {
             if !stands(r, table, notes[r.parent as usize].unwrap().label) {
                 return false;
@@ -62,26 +55,11 @@ fn nesting_holds_by(it: &[u8], table: &Table, notes: &[Option<Above>]) -> bool
     true
 }
 
-// Whether every ambient and capability may stand where it stands and every ambient bear its name.
-fn nesting_holds(it: &[u8], policy: &Policy, table: &Table) -> bool
-    requires { validity it.now ≡ pass }
-    ensures { result ≡ nesting_holds (records it.now) (parts (bits table.now)) }
-{
-    let mut notes = enclosures::notes();
-    enclosures::enclose(it, policy, &mut notes);
-    nesting_holds_by(it, table, &notes)
-}
-
 // Whether the table holds.
-pub fn holds(it: &[u8], policy: &Policy, table: &Table) -> bool
-    requires { validity it.now ≡ pass }
+pub fn holds(it: &Itinerary, policy: &Policy, table: &Table) -> bool
     ensures { result ≡ holds permit_all policy.now (records it.now) (parts (bits table.now)) }
 {
-    if !highs_hold(policy, table) {
-        return false;
-    }
-    if !nesting_holds(it, policy, table) {
-        return false;
-    }
-    table_rules::rules_hold(it, table)
+    highs_hold(policy, table)
+        && nesting_holds(it, policy, table)
+        && table_rules::rules_hold(it, table)
 }

@@ -1,8 +1,8 @@
 -- The folded rules hold exactly where the rules of all capability records do.
-use Rattle.std.specs.Prelude.{◌%◌, ◌*◌, ◌+◌, ◌-◌, ◌/◌, ◌<◌, ◌≤◌, ℕ, leb, get_or, length, Bool, false, List, ◌≡◌}
+use Rattle.std.specs.Prelude.{◌%◌, ◌*◌, ◌+◌, ◌-◌, ◌/◌, ◌<◌, ◌≤◌, ℕ, suc, zero, leb, get_or, length, ◌&&◌, Bool, false, List, ◌≡◌}
 use Rattle.std.proofs.Common.{le-leb, leb-true, ne_eqb, true≢false, ⊎_elim, ◌∙◌, ap, subst, sym}
 use Rattle.std.proofs.Math.Bool.{true}
-use Rattle.std.specs.Prelude.{Some}
+use Rattle.std.specs.Prelude.{None, Some}
 use Rattle.std.proofs.Math.Path.{refl}
 use Rattle.std.proofs.Math.Decide.{dec_le, ℕ_discrete}
 use native.Mathlib.Omega.{arith}
@@ -10,7 +10,7 @@ use Rattle.model.proofs.Laws.Done.{kind-of}
 use Rattle.model.specs.Scripts.{kind_of}
 use Rattle.model.proofs.Laws.Bit.{zero_bit}
 use Rattle.model.proofs.Laws.Bytes.{at-decode, valid-wf}
-use Rattle.model.proofs.Laws.Booleans.{and_left, and-make, and_right, bool_iff, never}
+use Rattle.model.proofs.Laws.Booleans.{and_left, and-make, and_right, bool_iff, is_false, never}
 use Rattle.model.proofs.Laws.Sets.{Narrow}
 use Rattle.model.proofs.Laws.Updates.{at-over, at-root}
 use Rattle.model.proofs.Laws.WellFormed.{WellFormed, shape-label, shape-named}
@@ -56,18 +56,49 @@ capability-form r h c =
 pub read-shape : (s : List ℕ) (i : ℕ) (r : Rec) → validity s ≡ pass → i ≤ count s → r ≡ decode s i → shape r ≡ true
 read-shape s i r v l e = rw (e ∙ sym (at-decode s i l)) ((valid-wf s v).shaped i)
 
-pub slot_small : (r : Rec) → CapabilityForm r → is_capability r ≡ true → slot r < 192
+pub cap-is : (r : Rec) (k : Capability) → capability r.kind ≡ Some k → is_capability r ≡ true
+unfolding is_capability kind_of
+cap-is r cap-in e = rw (kind-of r.kind cap-in e)
+cap-is r cap-out e = rw (kind-of r.kind cap-out e)
+cap-is r cap-open e = rw (kind-of r.kind cap-open e)
+
+cap-none : (x : ℕ) → capability x ≡ None → (leb 2 x && leb x 4) ≡ false
+unfolding capability
+cap-none zero e = refl
+cap-none (suc zero) e = refl
+cap-none (suc (suc zero)) e = let u : ◌≡◌ {A = ℕ} 0 1 = cc in absurd (omega arith)
+cap-none (suc (suc (suc zero))) e = let u : ◌≡◌ {A = ℕ} 0 1 = cc in absurd (omega arith)
+cap-none (suc (suc (suc (suc zero)))) e = let u : ◌≡◌ {A = ℕ} 0 1 = cc in absurd (omega arith)
+cap-none (suc (suc (suc (suc (suc k))))) e = is_false _ (λ t. let a = leb-true (suc (suc (suc (suc (suc k))))) 4 (and_right (leb 2 (suc (suc (suc (suc (suc k)))))) _ t) in omega arith)
+
+-- where a capability's word lies: label - 64 from the first word of its kind
+pub record Found (r : Rec) (i : ℕ) : Type 0 where
+  pub capable : is_capability r ≡ true
+  pub low : 64 ≤ r.label
+  pub name : r.name < 64
+  pub here : slot r ≡ i
+  pub below : i < 192
+
+pub found : (r : Rec) (k : Capability) (first : ℕ) → shape r ≡ true → capability r.kind ≡ Some k → first ≡ 64 * (kind_of k - 2) → Found r (first + (r.label - 64))
 unfolding slot
-slot_small r f c = let k = cap-bounds r c in let b = f.low in let d = f.high in omega arith
+found r k first h e b =
+    let c = cap-is r k e in
+    let f = capability-form r h c in
+    let m = cap-bounds r c in
+    let n = kind-of r.kind k e in
+    let l = f.low in
+    let g = f.high in
+    record { capable = c; low = l; name = f.name; here = rw (b, ← n) refl; below = omega arith }
 
 -- ---- the partners of one record
 
-pub added_none : (H : ℕ → ℕ → Bool) (r : Rec) (p : List ℕ) → is_capability r ≡ false → PartnersAdded H r p p
-added_none H r p h = adds_none (λ i b a. never _ a.capable h)
+pub added_none : (H : ℕ → ℕ → Bool) (r : Rec) (p : List ℕ) → capability r.kind ≡ None → PartnersAdded H r p p
+unfolding is_capability
+added_none H r p h = adds_none (λ i b a. never _ a.capable (cap-none r.kind h))
 
-pub added-one : (bearers : List ℕ) (r : Rec) (p : List ℕ) → Narrow 64 bearers → is_capability r ≡ true → slot r < length p → PartnersAdded (borne bearers) r p (or_at p (slot r) (get_or bearers r.name 0))
-added-one bearers r p h k l = adds-as (adds-or p (slot r) (get_or bearers r.name 0) l) (λ i b a. (sym a.here, a.names))
-    (λ i b a. record { capable = k; here = sym a.0; below = below_64 (get_or bearers r.name 0) b (h r.name) a.1; names = a.1 })
+pub added-one : (bearers : List ℕ) (r : Rec) (p : List ℕ) (i : ℕ) → Narrow 64 bearers → Found r i → i < length p → PartnersAdded (borne bearers) r p (or_at p i (get_or bearers r.name 0))
+added-one bearers r p i h f l = adds-as (adds-or p i (get_or bearers r.name 0) l) (λ j b a. (sym a.here ∙ f.here, a.names))
+    (λ j b a. record { capable = f.capable; here = f.here ∙ sym a.0; below = below_64 (get_or bearers r.name 0) b (h r.name) a.1; names = a.1 })
 
 -- ---- all records
 
@@ -118,12 +149,6 @@ module _ {its : List Rec} (wf : WellFormed its) (w z bearers : List ℕ) (zero :
   }
 
 -- ---- the rules
-
-pub cap-is : (r : Rec) (k : Capability) → capability r.kind ≡ Some k → is_capability r ≡ true
-unfolding is_capability kind_of
-cap-is r cap-in e = rw (kind-of r.kind cap-in e)
-cap-is r cap-out e = rw (kind-of r.kind cap-out e)
-cap-is r cap-open e = rw (kind-of r.kind cap-open e)
 
 pub kind-cap : (x : ℕ) (k : Capability) → x ≡ kind_of k → capability x ≡ Some k
 unfolding capability kind_of

@@ -1,7 +1,9 @@
 -- The tests of the rules decide whether the rules of all records hold.
-use Rattle.std.specs.Prelude.{◌%◌, ◌*◌, ◌+◌, ◌-◌, ◌/◌, ◌<◌, ◌^◌, ℕ, eqb, drop, get_or, length, take, Bool, false, true, List, ◌≡◌, refl}
+use Rattle.std.specs.Prelude.{◌%◌, ◌*◌, ◌+◌, ◌/◌, ◌<◌, ◌^◌, ℕ, eqb, drop, get_or, length, take, Bool, false, true, List, [], ◌≡◌, refl}
 use Rattle.std.proofs.Common.{eq-eqb, eqb-true, get_or-take, inl, inr, ◌∙◌, ap₂, subst}
 use Rattle.std.specs.Int.Bits.{bit_and, bit_or}
+use Rattle.std.specs.Simd.{first_chunks}
+use Rattle.table_words.specs.Words.{get_or-first_chunks}
 use Rattle.std.proofs.Math.Seq.{get_or-drop}
 use Rattle.std.proofs.Math.Bool.{true≢false}
 use Rattle.std.proofs.Math.Path.{ap, sym}
@@ -85,11 +87,14 @@ rows_same t b p n m e f = bool_iff _ _
     (λ h. every-make (λ k. bits (take n (drop (16 * b) t)) k) (λ k. bits (take m (drop (16 * p) t)) k) 128 (λ k l x.
     row-bit t p m k f l ∙ every-use (λ k. (parts (bits t)).I b k) (λ k. (parts (bits t)).I p k) 128 h k l (sym (row-bit t b n k e l) ∙ x)))
 
--- the parts from 16 b and from 16 p on, 16 bytes each
-pub rows_inside : (t : List ℕ) (b p : ℕ) →
-    every 128 (λ k. bits (take (16 * b + 16 - 16 * b) (drop (16 * b) t)) k) (λ k. bits (take (16 * p + 16 - 16 * p) (drop (16 * p) t)) k)
-    ≡ every 128 (λ k. (parts (bits t)).I b k) (λ k. (parts (bits t)).I p k)
-rows_inside t b p = rows_same t b p (16 * b + 16 - 16 * b) (16 * p + 16 - 16 * p) (omega arith) (omega arith)
+-- rows b and p among the table's parts of 16 bytes, as `as_chunks` gives them
+pub rows_inside : (t : List ℕ) (rows : List (List ℕ)) (n b p : ℕ) → rows ≡ first_chunks 16 n t → b < n → p < n →
+    every 128 (λ k. bits (get_or rows b []) k) (λ k. bits (get_or rows p []) k) ≡ every 128 (λ k. (parts (bits t)).I b k) (λ k. (parts (bits t)).I p k)
+rows_inside t rows n b p e lb lp =
+    ap₂ (λ (x y : List ℕ). every 128 (λ k. bits x k) (λ k. bits y k)) (row b lb) (row p lp) ∙ rows_same t b p 16 16 refl refl
+  where
+    row : (i : ℕ) → i < n → get_or rows i [] ≡ take 16 (drop (16 * i) t)
+    row i l = ap (λ (xs : List (List ℕ)). get_or xs i []) e ∙ get_or-first_chunks 16 n t i l
 
 module _ (T : Table) (p b : ℕ) where
   abbrev RowsIn : Bool

@@ -1,18 +1,17 @@
 // Whether the rules of an itinerary's capabilities hold in a table: by its movers, pair by pair; in and out on the table's
-// words, open by row inclusion on parts of the lent table.
+// words, open by row inclusion on rows of the lent table.
 #![tactic(auto)]
 
 ghost use Rattle.std.specs.Prelude.{◌≡◌, ℕ, ◌<◌};
 ghost use Rattle.model.specs.Records.{records};
-ghost use Rattle.model.specs.Refusals.{pass};
 ghost use Rattle.model.specs.Tables.{bits, parts};
-ghost use Rattle.model.specs.Validity.{validity};
 ghost use Rattle.table_words.specs.BitSets.{Bits};
 ghost use Rattle.table_partners.specs.Rules.{AllRules};
 ghost use Rattle.table_rules.specs.Tests.{Decides, InOutHeld, PairHeld, RowHeld, Within, open_holds};
 
+use records::Itinerary;
 use table_words::{Kinds, Ones, Words};
-use tables::Table;
+use tables::{ROW_BYTES, Table};
 
 // Whether all labels of x are labels of y.
 fn within(x: u64, y: u64) -> bool
@@ -49,11 +48,8 @@ fn open_holds(table: &Table, p: usize, b: usize) -> bool
     requires b_bound { b < 64 }
     ensures { result ≡ open_holds (parts (bits table.now)) p b }
 {
-    let x = 16 * b;
-    let x_end = x + 16;
-    let y = 16 * p;
-    let y_end = y + 16;
-    if !tables::row_included(&table[x..x_end], &table[y..y_end]) {
+    let (rows, _) = table.as_chunks::<ROW_BYTES>();
+    if !tables::row_included(&rows[b], &rows[p]) {
         return false;
     }
     if tables::bit(table, tables::SUSPECTS + b) {
@@ -93,8 +89,7 @@ fn row_holds(table: &Table, w: &Words, movers: &Kinds, p: usize) -> bool
 }
 
 // Whether the rules of all capabilities hold.
-pub fn rules_hold(it: &[u8], table: &Table) -> bool
-    requires { validity it.now ≡ pass }
+pub fn rules_hold(it: &Itinerary, table: &Table) -> bool
     ensures { Decides result (AllRules (records it.now) (bits table.now)) }
 {
     let mut w = [0u64; table_words::TABLE_WORDS];

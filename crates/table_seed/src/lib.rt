@@ -1,45 +1,39 @@
 // The seed of the least table: what the itinerary and the policy ask for by themselves.
-// A table has 1,544 bytes, of which 512 from byte 1,024 are H; a policy has 64.
 #![tactic(auto)]
 
-ghost use Rattle.std.specs.Prelude.{◌≡◌, ◌/◌, ◌%◌, ◌^◌, ◌<◌, length};
+ghost use Rattle.std.specs.Prelude.{◌≡◌, ℕ, ◌+◌, ◌/◌, ◌%◌, ◌^◌, ◌<◌};
 ghost use Rattle.model.specs.Records.{count, records};
-ghost use Rattle.model.specs.Refusals.{pass};
 ghost use Rattle.model.specs.Tables.{bits, is_high, place_s};
-ghost use Rattle.model.specs.Validity.{validity};
-ghost use Rattle.enclosures.specs.Notes.{Nearests};
 ghost use Rattle.table_words.specs.BitSets.{or_at};
 ghost use Rattle.table_partners.specs.Facts.{bearing, name_cell, nesting_cell, standing};
 ghost use Rattle.table_seed.specs.Seeds.{CellsSet, Seeded};
 
-use model::Above;
-use tables::{HIGH, Policy};
+use records::Itinerary;
+use tables::{HIGH, Policy, Table};
 
 // Sets bit j.
-fn set_bit(table: &mut [u8], j: usize)
-    requires { j / 8 < length table.old }
+fn set_bit(table: &mut Table, j: usize)
+    requires { j < 12352 }
     ensures { table.new ≡ or_at table.old (j / 8) (2 ^ (j % 8)) }
 {
     table[j / 8] |= 1u8 << (j % 8);
 }
 
-// Sets the bits of H that the itinerary asks for, in the names part of the table.
-fn fill_names(it: &[u8], names: &mut [u8])
-    requires valid { validity it.now ≡ pass }
-    requires names_len { length names.old ≡ 512 }
-    ensures { CellsSet (bearing (records it.now)) (name_cell (records it.now)) (count it.now) (bits names.old) (bits names.new) }
+// Sets the bits of H that the itinerary asks for.
+fn fill_names(it: &Itinerary, table: &mut Table)
+    ensures { CellsSet (bearing (records it.now)) (λ x. 8192 + name_cell (records it.now) x) (count it.now) (bits table.old) (bits table.new) }
 {
-    for i in 0..(it.len() / 8) as u16 {
-        let r = records::record_at(it, i + 1);
+    for i in 0..it.count() {
+        let r = records::record_at(it.bytes, i + 1);
         if r.is_ambient() {
-            set_bit(names, 64 * (r.label as usize) + (r.name as usize));
+            let cell = 64 * (r.label as usize) + (r.name as usize);
+            set_bit(table, tables::NAMES + cell);
         }
     }
 }
 
 // Sets the bits of S that the policy asks for.
-fn fill_high(policy: &Policy, table: &mut [u8])
-    requires { length table.old ≡ 1544 }
+fn fill_high(policy: &Policy, table: &mut Table)
     ensures { CellsSet (is_high policy.now) place_s 64 (bits table.old) (bits table.new) }
 {
     for k in 0..64 {
@@ -49,15 +43,15 @@ fn fill_high(policy: &Policy, table: &mut [u8])
     }
 }
 
-// Sets the bits of I that the nesting asks for, with what encloses each number.
-fn fill_nesting_by(it: &[u8], table: &mut [u8], notes: &[Option<Above>])
-    requires valid { validity it.now ≡ pass }
-    requires table_len { length table.old ≡ 1544 }
-    requires nearests { Nearests it.now notes.now }
+// Sets the bits of I that the itinerary's nesting asks for.
+fn fill_nesting(it: &Itinerary, policy: &Policy, table: &mut Table)
     ensures { CellsSet (standing (records it.now)) (nesting_cell (records it.now)) (count it.now) (bits table.old) (bits table.new) }
 {
-    for i in 0..(it.len() / 8) as u16 {
-        let r = records::record_at(it, i + 1);
+    let bytes = it.bytes;
+    let mut notes = enclosures::notes();
+    enclosures::enclose(it, policy, &mut notes);
+    for i in 0..it.count() {
+        let r = records::record_at(bytes, i + 1);
         if r.is_nested() {
             let container = notes[r.parent as usize].unwrap().label;
             set_bit(table, 128 * (container as usize) + (r.label as usize));
@@ -65,25 +59,12 @@ fn fill_nesting_by(it: &[u8], table: &mut [u8], notes: &[Option<Above>])
     }
 }
 
-// Sets the bits of I that the itinerary's nesting asks for.
-fn fill_nesting(it: &[u8], policy: &Policy, table: &mut [u8])
-    requires valid { validity it.now ≡ pass }
-    requires table_len { length table.old ≡ 1544 }
-    ensures { CellsSet (standing (records it.now)) (nesting_cell (records it.now)) (count it.now) (bits table.old) (bits table.new) }
-{
-    let mut notes = enclosures::notes();
-    enclosures::enclose(it, policy, &mut notes);
-    fill_nesting_by(it, table, &notes);
-}
-
 // Writes the table with what the itinerary and the policy ask for by themselves.
-pub fn seed(it: &[u8], policy: &Policy, table: &mut [u8])
-    requires valid { validity it.now ≡ pass }
-    requires table_len { length table.old ≡ 1544 }
+pub fn seed(it: &Itinerary, policy: &Policy, table: &mut Table)
     ensures { Seeded (records it.now) policy.now (bits table.new) }
 {
     table.fill(0);
-    fill_names(it, &mut table[1024..1536]);
+    fill_names(it, table);
     fill_high(policy, table);
     fill_nesting(it, policy, table);
 }

@@ -34,6 +34,7 @@ pub fn close_suspects(w: &mut Words, movers: &Kinds)
 {
     let mut suspects = w[table_words::SUSPECTS];
     let mut unseen = u64::MAX;
+    // The set that is taken from grows meanwhile, which an iterator over it wouldn't see.
     while let Some(b) = Ones(suspects & unseen).next() {
         suspects |= made_suspect(w, movers, b);
         unseen ^= 1u64 << b;

@@ -3,6 +3,7 @@ use Rattle.std.specs.Prelude.{◌*◌, ◌+◌, ◌<◌, ◌≤◌, suc, ℕ, dr
 use Rattle.std.proofs.Common.{zero-le, drop-cons, true≢false, ◌∙◌, ap, ap₂, sym, le_refl, suc-mul, suc-ne-zero, add-one, arith}
 use Rattle.std.proofs.Math.Arith.{digits_div, digits_mod}
 use Rattle.std.specs.Int.Count.{ones}
+use Rattle.std.specs.List.{fold, sum_by}
 use Rattle.std.proofs.lemmas.Nat.{ones-le}
 use Rattle.std.proofs.Math.Seq.{drop-length}
 use Rattle.std.proofs.Math.Decide.{dec_lt}
@@ -11,6 +12,14 @@ use Rattle.model.proofs.Laws.Bit.{Fewer, fewer, high_bit}
 use Rattle.model.proofs.Laws.Sets.{Narrow}
 use Rattle.model.specs.Tables.{bit_at, test_bit, total}
 use Rattle.tables.specs.Grow.{Inside}
+
+total-fold : (n : ℕ) (xs : List ℕ) → fold (λ a x. a + ones x) n xs ≡ n + total xs
+unfolding total
+total-fold n [] = omega arith
+total-fold n (x ∷ xs) = let e = total-fold (n + ones x) xs in omega arith
+
+pub total-sum : (xs : List ℕ) → sum_by ones xs ≡ total xs
+total-sum xs = let e = total-fold 0 xs in omega arith
 
 pub total-le : (m : ℕ) (xs : List ℕ) → Narrow m xs → total xs ≤ length xs * m
 unfolding total

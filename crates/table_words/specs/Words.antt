@@ -1,11 +1,12 @@
 -- Bytes as one number, the first lowest: its bits are theirs.
-use Rattle.std.specs.Prelude.{◌%◌, ◌*◌, ◌+◌, ◌-◌, ◌/◌, ◌<◌, ◌^◌, ◌≤◌, suc, zero, ℕ, eqb, drop, get_or, length, set, take, Bool, ◌||◌, false, List, [], ◌∷◌, ◌≡◌}
+use Rattle.std.specs.Prelude.{◌%◌, ◌*◌, ◌+◌, ◌-◌, ◌/◌, ◌<◌, ◌^◌, ◌≤◌, suc, zero, ℕ, eqb, drop, get_or, length, set, take, ◌++◌, Bool, ◌||◌, false, List, [], ◌∷◌, ◌≡◌}
 use Rattle.std.proofs.lemmas.Nat.{or_shifted}
-use Rattle.std.proofs.Math.ListN.{get_or-eq_default}
+use Rattle.std.proofs.Math.ListN.{get_or-append, get_or-eq_default}
+use borrow.Rule.Slice.PartMut.{put_mid}
 use Rattle.std.specs.Int.{from_le_bytes, to_le_bytes}
 use Rattle.std.specs.Simd.{first_chunks}
 use Rattle.std.proofs.lemmas.List.{drop_all, drop-drop}
-use Rattle.std.proofs.Common.{refl, w64, length-take, pow_pos, drop-cons, get_or-set_other, get_or-set_same, get_or-take, ⊎_elim, ◌∙◌, ap₂, subst, div-add-mod', eq-or-lt_of_le, le_of_eq, le_of_suc-le-suc, le_trans, lt_irrefl, mod-lt, mul_assoc, mul-div_cancel, not-suc-le-zero, pow-suc, zero-lt-suc, add-one}
+use Rattle.std.proofs.Common.{refl, w64, length-take, pow_pos, drop-cons, get_or-set_other, get_or-set_same, get_or-append-add, get_or-take, length-append, length-drop, length-take-le, ⊎_elim, ◌∙◌, ap₂, subst, div-add-mod', eq-or-lt_of_le, le_of_eq, le_of_suc-le-suc, le_trans, lt_irrefl, mod-lt, mul_assoc, mul-div_cancel, not-suc-le-zero, pow-suc, zero-lt-suc, add-one}
 use Rattle.std.proofs.Math.Pow.{high}
 use Rattle.std.proofs.Math.Seq.{get_or-drop}
 use Rattle.std.proofs.Math.Path.{ap, fun_ext, sym}
@@ -151,13 +152,32 @@ stored-narrow n w t e s i = go (dec_lt i n)
     go (yes l) = subst (λ (x : ℕ). x < 2 ^ 8) (sym (s i l)) (mod-lt (get_or w (i / 8) 0 / 2 ^ (8 * (i % 8))) (pow_pos 8))
     go (no d) = subst (λ (x : ℕ). x < 2 ^ 8) (sym (get_or-eq_default t 0 (omega (arith, e)))) (pow_pos 8)
 
--- byte k of word i as well
-pub stored_next : (w t : List ℕ) (i k v : ℕ) → 8 * i + k < length t → k < 8 → Stored w (8 * i + k) t → v ≡ get_or w i 0 / 2 ^ (8 * k) % 2 ^ 8 → Stored w (8 * i + (k + 1)) (set t (8 * i + k) v)
+-- the eight bytes of word i as well, put over those of t
+pub stored_next : (w t u : List ℕ) (i k : ℕ) → k ≡ 8 → 8 * i + 8 ≤ length t → Stored w (8 * i) t → u ≡ to_le_bytes w64 (get_or w i 0) →
+    (length (put_mid (8 * i) k t u) ≡ length t) × Stored w (8 * (i + 1)) (put_mid (8 * i) k t u)
 unfolding Stored
-stored_next w t i k v l h s e j m =
-    let q : (8 * i + k) / 8 ≡ i = omega arith in
-    let r : (8 * i + k) % 8 ≡ k = omega arith in
-    fill-next (λ n. get_or w (n / 8) 0 / 2 ^ (8 * (n % 8)) % 2 ^ 8) t (8 * i + k) v l s (e ∙ sym (ap₂ (λ (x y : ℕ). get_or w x 0 / 2 ^ (8 * y) % 2 ^ 8) q r)) j (omega arith)
+stored_next w t u i k e h s b = (long, λ j l. go j l (dec_lt j (8 * i)))
+  where
+    front : length (take (8 * i) t) ≡ 8 * i
+    front = length-take-le (8 * i) t (omega arith)
+
+    eight : length u ≡ 8
+    eight = ap length b
+
+    rest : List ℕ
+    rest = drop k (drop (8 * i) t)
+
+    long : length (take (8 * i) t ++ (u ++ rest)) ≡ length t
+    long = omega (arith, front, eight, length-append (take (8 * i) t) (u ++ rest), length-append u rest, length-drop k (drop (8 * i) t), length-drop (8 * i) t)
+
+    go : (j : ℕ) → j < 8 * (i + 1) → Dec (j < 8 * i) → get_or (take (8 * i) t ++ (u ++ rest)) j 0 ≡ get_or w (j / 8) 0 / 2 ^ (8 * (j % 8)) % 2 ^ 8
+    go j l (yes m) = get_or-append (take (8 * i) t) (u ++ rest) 0 j (omega (arith, front)) ∙ get_or-take (8 * i) t j 0 m ∙ s j m
+    go j l (no d) =
+        let q : j ≡ length (take (8 * i) t) + j % 8 = omega (arith, front) in
+        let r : i ≡ j / 8 = omega arith in
+        ap (λ (x : ℕ). get_or (take (8 * i) t ++ (u ++ rest)) x 0) q ∙ get_or-append-add (take (8 * i) t) (u ++ rest) (j % 8) 0
+        ∙ get_or-append u rest 0 (j % 8) (omega (arith, eight)) ∙ ap (λ (xs : List ℕ). get_or xs (j % 8) 0) b
+        ∙ get_or-to_le_bytes (get_or w i 0) (j % 8) (omega arith) ∙ ap (λ (x : ℕ). get_or w x 0 / 2 ^ (8 * (j % 8)) % 2 ^ 8) r
 
 -- bytes that are the words'
 pub stored : (n : ℕ) (w t : List ℕ) → length w ≡ n → length t ≡ n * 8 → Stored w (n * 8) t → bit_at 8 t ≡ bit_at 64 w

@@ -29,7 +29,8 @@ pub const SUSPECTS: usize = 192;
 // A table as words.
 pub type Words = [u64; TABLE_WORDS];
 
-// Partners or movers: for each kind and label a set of labels.
+// Partners or movers: for each kind and label a set of labels. (One array and not three of 64: what all kinds have in common
+// is then one loop over one index, and the laws speak of one index.)
 pub type Kinds = [u64; KIND_WORDS];
 
 // For each label a set of labels.
@@ -45,28 +46,14 @@ pub fn load(table: &Table, words: &mut Words)
     }
 }
 
-// The bytes of word i, after those of the words before it. A word's bytes go together: one store, compiled.
-fn write_word(words: &Words, i: usize, table: &mut [u8])
-    requires i_in_bounds { i < 193 }
-    requires table_len { length table.old ≡ 1544 }
-    requires stored { Stored words.now (8 * i) table.old }
-    ensures { Stored words.now (8 * i + 8) table.new }
-{
-    let bytes = words[i].to_le_bytes();
-    for k in 0..BYTES {
-        table[BYTES * i + k] = bytes[k];
-    }
-}
-
-// The words' bits as bytes. (A lent table that is written stays a slice: what is written through an array that std's try_from
-// makes of it is not known to its lender.)
-pub fn store(words: &Words, table: &mut [u8])
-    requires { length table.old ≡ 1544 }
+// The words' bits as bytes. A word's bytes go together: one store, compiled.
+pub fn store(words: &Words, table: &mut Table)
     ensures same_bits { bits table.new ≡ bit_at 64 words.now }
     ensures narrow { Narrow 8 table.new }
 {
     for i in 0..TABLE_WORDS {
-        write_word(words, i, table);
+        let at = BYTES * i;
+        table[at..at + BYTES].copy_from_slice(&words[i].to_le_bytes());
     }
 }
 

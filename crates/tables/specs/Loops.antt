@@ -1,12 +1,13 @@
 -- What a loop that stops at the first failure finds.
 use Prim.Native.Nat.{◌%◌, ◌*◌, ◌+◌, ◌/◌, ◌<◌, ◌^◌, ◌≤◌, ℕ}
-use Rattle.std.proofs.Common.{below_more, true≢false, ◌∙◌, ap₂, arith}
+use Rattle.std.proofs.Common.{le_of_suc-le-suc, not-suc-le-zero, suc-le-suc, true≢false, zero-lt-suc, ◌∙◌, ap₂, arith}
 use borrow.Author.Tests.{eq-eqb, le-leb, lt-leb, ne_eqb}
 use Rattle.std.proofs.lemmas.Nat.{and_le_l, and_le_r}
 use Rattle.std.specs.Int.Bits.{bit_or, bit_xor, or_add_and, xor_add_and, xor_self}
+use Rattle.std.proofs.lemmas.List.FromFn.{get_or-range_with_len, length-range_with_len}
 use Rattle.std.specs.Bool.{MatchBool}
-use Rattle.std.specs.List.{AllWithin, HoldsAt}
-use Rattle.std.specs.Prelude.{eqb, get_or, length, Bool, ◌&&◌, not, List, ◌≡◌}
+use Rattle.std.specs.List.{AllWithin, HoldsAt, fold, range_with_len, zip}
+use Rattle.std.specs.Prelude.{eqb, get_or, length, Bool, ◌&&◌, not, List, [], ◌∷◌, suc, zero, ◌≡◌}
 use Rattle.std.proofs.Math.Dec.{leb}
 use Rattle.std.proofs.Math.Bool.{false, true}
 use Rattle.std.proofs.Math.Path.{ap, fun_ext, refl, sym}
@@ -24,6 +25,18 @@ module _ (n : ℕ) (t f : ℕ → Bool) where
 
   pub one-fails : (x : ℕ) → x < n → t x ≡ true → f x ≡ false → false ≡ every n t f
   one-fails x l e d = sym (is_false _ (λ h. true≢false (sym (every-use t f n h x l e) ∙ d)))
+
+-- what `all` answers of the numbers below n
+pub ranged : (n : ℕ) (f : ℕ → Bool) (r : Bool) →
+    MatchBool r (AllWithin (λ k. f k ≡ true) (range_with_len 0 n) 0 (length (range_with_len 0 n))) ((k : ℕ) × (k < length (range_with_len 0 n)) × HoldsAt (λ k. f k ≡ false) (range_with_len 0 n) k) → r ≡ every n (λ k. true) f
+ranged n f true h = all_pass n (λ k. true) f (λ k l t.
+    let m : k < length (range_with_len 0 n) = omega (arith, length-range_with_len 0 n) in
+    let z : k ≡ get_or (range_with_len 0 n) k 0 = omega (arith, get_or-range_with_len 0 n k 0 l) in
+    ap f z ∙ h k 0 (omega arith) m)
+ranged n f false h =
+    let l : h.0 < n = omega (arith, h.1, length-range_with_len 0 n) in
+    let z : h.0 ≡ get_or (range_with_len 0 n) h.0 0 = omega (arith, get_or-range_with_len 0 n h.0 0 l) in
+    one-fails n (λ k. true) f h.0 l refl (ap f z ∙ h.2 0)
 
 -- ---- rows
 
@@ -44,47 +57,55 @@ row-no x y i l hx hy n = sym (is_false _ (λ t. n (same_or 8 (get_or x i 0) (get
         sym (ap₂ (λ (a b : ℕ). test_bit (get_or y a 0) b) q r)
         ∙ every-use (λ k. bits x k) (λ k. bits y k) 128 t (8 * i + k) (omega arith) (ap₂ (λ (a b : ℕ). test_bit (get_or x a 0) b) q r ∙ s)
 
--- e has the bits of the first n bytes of x that y lacks
-pub record Extra (x y : List ℕ) (n e : ℕ) : Type 0 where
-  pub none : e ≡ 0 → (k : ℕ) → k < n → bit_or (get_or x k 0) (get_or y k 0) ≡ get_or y k 0
-  pub all : ((k : ℕ) → k < n → bit_or (get_or x k 0) (get_or y k 0) ≡ get_or y k 0) → e ≡ 0
+-- e and the bits that the byte p.0 has and p.1 lacks
+abbrev pub with_extra : ℕ → ℕ × ℕ → ℕ
+with_extra e p = bit_or e (bit_xor (bit_or p.0 p.1) p.1)
 
-module _ (x y : List ℕ) where
-  pub extra-none : Extra x y 0 0
-  extra-none = record { none = λ _ k l. absurd (omega arith); all = λ _. refl }
+unfoldable Parts : List ℕ → List ℕ → Type 0
+Parts x y = (k : ℕ) → k < length x → bit_or (get_or x k 0) (get_or y k 0) ≡ get_or y k 0
 
-  pub extra-next : (n e : ℕ) → Extra x y n e → Extra x y (n + 1) (bit_or e (bit_xor (bit_or (get_or x n 0) (get_or y n 0)) (get_or y n 0)))
-  extra-next n e f = record {
-    none = λ z k l. below_more (λ (k : ℕ). bit_or (get_or x k 0) (get_or y k 0) ≡ get_or y k 0) n (f.none (both z).0) (equal (both z).1) k l;
-    all = λ h. ap₂ bit_or (f.all (λ k l. h k (omega arith))) (ap (λ (v : ℕ). bit_xor v (get_or y n 0)) (h n (omega arith)) ∙ xor_self (get_or y n 0));
-  }
-    where
-      d : ℕ
-      d = bit_xor (bit_or (get_or x n 0) (get_or y n 0)) (get_or y n 0)
+parts_none : (x y e : ℕ) → with_extra e (x, y) ≡ 0 → (e ≡ 0) × (bit_or x y ≡ y)
+parts_none x y e z =
+    let d = bit_xor (bit_or x y) y in
+    let s = or_add_and e d in let l = and_le_l e d in let r = and_le_r e d in
+    let t = xor_add_and (bit_or x y) y in let m = and_le_l (bit_or x y) y in let n = and_le_r (bit_or x y) y in
+    (omega arith, omega arith)
 
-      both : bit_or e d ≡ 0 → (e ≡ 0) × (d ≡ 0)
-      both z = let s = or_add_and e d in let l = and_le_l e d in let r = and_le_r e d in (omega arith, omega arith)
+-- nothing gathered: each byte of x is a part of y's
+gathered-none : (x y : List ℕ) (e : ℕ) → length x ≡ length y → fold with_extra e (zip x y) ≡ 0 → (e ≡ 0) × Parts x y
+unfolding Parts
+gathered-none [] y e h z = (z, λ k l. absurd (not-suc-le-zero l))
+gathered-none (x ∷ xs) [] e h z = absurd (omega (arith, h))
+gathered-none (x ∷ xs) (y ∷ ys) e h z =
+    let f = gathered-none xs ys (with_extra e (x, y)) (omega (arith, h)) z in
+    let g = parts_none x y e f.0 in (g.0, by g.1 f.1)
+  where
+    by : bit_or x y ≡ y → ((k : ℕ) → k < length xs → bit_or (get_or xs k 0) (get_or ys k 0) ≡ get_or ys k 0) → (k : ℕ) → k < suc (length xs) → bit_or (get_or (x ∷ xs) k 0) (get_or (y ∷ ys) k 0) ≡ get_or (y ∷ ys) k 0
+    by g f zero l = g
+    by g f (suc k) l = f k (le_of_suc-le-suc l)
 
-      equal : d ≡ 0 → bit_or (get_or x n 0) (get_or y n 0) ≡ get_or y n 0
-      equal z =
-          let s = xor_add_and (bit_or (get_or x n 0) (get_or y n 0)) (get_or y n 0) in
-          let l = and_le_l (bit_or (get_or x n 0) (get_or y n 0)) (get_or y n 0) in
-          let r = and_le_r (bit_or (get_or x n 0) (get_or y n 0)) (get_or y n 0) in
-          omega arith
+gathered-all : (x y : List ℕ) → Parts x y → fold with_extra 0 (zip x y) ≡ 0
+unfolding Parts
+gathered-all [] y h = refl
+gathered-all (x ∷ xs) [] h = refl
+gathered-all (x ∷ xs) (y ∷ ys) h =
+    let z : with_extra 0 (x, y) ≡ 0 = ap (λ (v : ℕ). bit_or 0 (bit_xor v y)) (h 0 (zero-lt-suc (length xs))) ∙ ap (bit_or 0) (xor_self y) in
+    ap (λ (e : ℕ). fold with_extra e (zip xs ys)) z ∙ gathered-all xs ys (λ k l. h (suc k) (suc-le-suc l))
 
-  pub extra-end : (n e : ℕ) → n ≡ 16 → Narrow 8 x → Narrow 8 y → Extra x y n e → eqb e 0 ≡ every 128 (λ k. bits x k) (λ k. bits y k)
-  extra-end n e q hx hy f = go (ℕ_discrete e 0)
-    where
-      part : every 128 (λ k. bits x k) (λ k. bits y k) ≡ true → (k : ℕ) → k < n → bit_or (get_or x k 0) (get_or y k 0) ≡ get_or y k 0
-      part t k l = by (ℕ_discrete (bit_or (get_or x k 0) (get_or y k 0)) (get_or y k 0))
-        where
-          by : Dec (bit_or (get_or x k 0) (get_or y k 0) ≡ get_or y k 0) → bit_or (get_or x k 0) (get_or y k 0) ≡ get_or y k 0
-          by (yes p) = p
-          by (no d) = absurd (true≢false (sym t ∙ sym (row-no x y k (omega arith) (hx k) (hy k) d)))
+pub gathered : (x y : List ℕ) → length x ≡ 16 → length y ≡ 16 → Narrow 8 x → Narrow 8 y → eqb (fold with_extra 0 (zip x y)) 0 ≡ every 128 (λ k. bits x k) (λ k. bits y k)
+unfolding Parts
+gathered x y hx hy nx ny = go (ℕ_discrete (fold with_extra 0 (zip x y)) 0)
+  where
+    part : every 128 (λ k. bits x k) (λ k. bits y k) ≡ true → Parts x y
+    part t k l = by (ℕ_discrete (bit_or (get_or x k 0) (get_or y k 0)) (get_or y k 0))
+      where
+        by : Dec (bit_or (get_or x k 0) (get_or y k 0) ≡ get_or y k 0) → bit_or (get_or x k 0) (get_or y k 0) ≡ get_or y k 0
+        by (yes p) = p
+        by (no d) = absurd (true≢false (sym t ∙ sym (row-no x y k (omega arith) (nx k) (ny k) d)))
 
-      go : Dec (e ≡ 0) → eqb e 0 ≡ every 128 (λ k. bits x k) (λ k. bits y k)
-      go (yes z) = eq-eqb e 0 z ∙ row-yes x y (λ i l. f.none z i (omega arith))
-      go (no d) = ne_eqb e 0 d ∙ sym (is_false _ (λ t. d (f.all (part t))))
+    go : Dec (fold with_extra 0 (zip x y) ≡ 0) → eqb (fold with_extra 0 (zip x y)) 0 ≡ every 128 (λ k. bits x k) (λ k. bits y k)
+    go (yes z) = eq-eqb _ 0 z ∙ row-yes x y (λ i l. (gathered-none x y 0 (omega arith) z).1 i (omega arith))
+    go (no d) = ne_eqb _ 0 d ∙ sym (is_false _ (λ t. d (gathered-all x y (part t))))
 
 -- ---- a policy
 

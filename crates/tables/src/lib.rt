@@ -12,6 +12,9 @@ use model::{Cause, Refusal};
 // How many bytes a table has.
 pub const TABLE_BYTES: usize = 1544;
 
+// How many bytes a row of I has: a bit for each label.
+pub const ROW_BYTES: usize = 16;
+
 // How many bytes a policy has: a class for each label.
 pub const POLICY_BYTES: usize = 64;
 
@@ -21,6 +24,9 @@ pub const HIGH: u8 = 1;
 pub const BOUNDARY: u8 = 2;
 
 pub type Table = [u8; TABLE_BYTES];
+
+// A row of I.
+pub type Row = [u8; ROW_BYTES];
 
 pub type Policy = [u8; POLICY_BYTES];
 
@@ -65,12 +71,7 @@ fn clear_bits(table: &Table, first: usize, step: usize) -> bool
     requires { first + step * 63 < 12352 }
     ensures { result ≡ every 64 (λ k. true) (λ k. not (bits table.now (first + step * k))) }
 {
-    for k in 0..64 {
-        if bit(table, first + step * k) {
-            return false;
-        }
-    }
-    true
+    (0..64).all(|k| !bit(table, first + step * k))
 }
 
 // Whether refusal 8 passes a table.
@@ -102,14 +103,11 @@ pub fn sized_gate(table: &[u8]) -> Result<(), Refusal>
 }
 
 // Whether each bit of the row x is one in the row y: the bits that x has more, gathered.
-pub fn row_included(x: &[u8], y: &[u8]) -> bool
-    requires x_len { length x.now ≡ 16 }
-    requires y_len { length y.now ≡ 16 }
+pub fn row_included(x: &Row, y: &Row) -> bool
     ensures { result ≡ every 128 (λ k. bits x.now k) (λ k. bits y.now k) }
 {
-    let mut extra: u8 = 0;
-    for i in 0..16 {
-        extra |= (x[i] | y[i]) ^ y[i];
-    }
-    extra == 0
+    x.iter()
+        .zip(y)
+        .fold(0, |extra, (&x, &y)| extra | ((x | y) ^ y))
+        == 0
 }

@@ -26,8 +26,7 @@ fn put_front(text: &mut [u8], at: usize, listed: bool, number: u16) -> usize
     ensures { Put text.old at (front listed number) text.new result }
 {
     if listed {
-        let end = text_put::put_number(text, at, number);
-        return text_put::put_byte(text, end, b' ');
+        return text_put::put_field(text, at, number, b' ');
     }
     at
 }
@@ -37,9 +36,8 @@ fn put_fields(text: &mut [u8], at: usize, line: Line) -> usize
     requires { at + length (fields line) ≤ length text.old }
     ensures { Put text.old at (fields line) text.new result }
 {
-    let label = text_put::put(text, at, text_form::kind_word(line.kind));
-    let space = text_put::put_number(text, label, line.label as u16);
-    let name = text_put::put_byte(text, space, b' ');
+    let label = text_put::put(text, at, text_form::kind_word(line.capability));
+    let name = text_put::put_field(text, label, line.label as u16, b' ');
     text_put::put_number(text, name, line.name as u16)
 }
 
@@ -76,6 +74,7 @@ fn put_entry(
 }
 
 // Puts the line of a record that is visited. In a listing it is marked where the sheet hides it.
+// `sheet` and `listed` are two parameters, since no clause can name an Option of a loan without a further definition.
 pub fn put_visit(
     text: &mut [u8],
     at: usize,
@@ -97,9 +96,9 @@ pub fn put_visit(
     let s = records::record_at(sheet, number);
     let line = Line {
         depth: v.depth,
-        kind: r.kind,
+        capability: r.capability(),
         label: r.label,
         name: r.name,
     };
-    put_entry(text, at, listed, number, listed & (s.kind == 0), line)
+    put_entry(text, at, listed, number, listed & s.is_gone(), line)
 }

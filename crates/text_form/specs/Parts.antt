@@ -27,7 +27,7 @@ front false number = []
 
 -- a line's kind, label and name
 unfoldable pub fields : Line → List ℕ
-fields l = kind_word l.kind ++ field l.label (digits_in 5 l.name)
+fields l = kind_word l.capability ++ field l.label (digits_in 5 l.name)
 
 -- the line of a record, in a listing or not; hidden where it is gone among those shown
 unfoldable pub visit_line : Bool → List Rec → List Rec → Visit → List ℕ

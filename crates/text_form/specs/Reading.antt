@@ -1,11 +1,13 @@
 -- Reading the text form: a line, all lines, and the records that they are.
-use Rattle.std.specs.Prelude.{◌*◌, ◌+◌, ◌-◌, ◌/◌, ◌%◌, min, suc, zero, ℕ, eqb, leb, drop, length, replicate, set, get_or, Bool, ◌&&◌, false, true, List, [], ◌∷◌}
+use Rattle.std.specs.Prelude.{◌*◌, ◌+◌, ◌-◌, ◌/◌, ◌%◌, min, suc, zero, ℕ, eqb, leb, drop, is_none, length, replicate, set, get_or, Bool, ◌&&◌, false, true, List, [], ◌∷◌}
 use Rattle.std.specs.Prelude.{Option, None, Some, Result, Ok, Err}
 use Rattle.model.specs.Records.{byte, encode}
+use Rattle.model.specs.declared.Capability.{Capability}
+use Rattle.model.specs.declared.Capability.TheVariants.{In as cap-in, Open as cap-open, Out as cap-out}
 use Rattle.model.specs.Validity.{label_in}
 use Rattle.model.specs.declared.Rec.{Rec}
 use Rattle.text_put.specs.Puts.{over}
-use Rattle.text_form.specs.Lines.{ambient_word, in_word, open_word, out_word}
+use Rattle.text_form.specs.Lines.{kind_byte, kind_word}
 use Rattle.text_form.specs.declared.Cause.{Cause}
 use Rattle.text_form.specs.declared.Cause.TheVariants as cause
 use Rattle.text_form.specs.declared.Decimal.{Decimal}
@@ -102,35 +104,34 @@ ended l [] = Err cause.NoEnd
 ended l (c ∷ s) = demand (eqb c 10) (cause_at cause.AfterName (c ∷ s)) (Ok (record { line = l; left = length s }))
 
 -- the name, after the depth, kind and label
-unfoldable pub named : ℕ → ℕ → ℕ → List ℕ → Result LineRead Cause
+unfoldable pub named : ℕ → Option Capability → ℕ → List ℕ → Result LineRead Cause
 named d k label s =
     demand (eqb (byte s 0) 32) (cause_at cause.NoName s)
     (with_number (number_read cause.NoName (drop 1 s)) (λ n. demand (leb n.value 63) cause.WrongName
-    (ended (record { depth = d; kind = k; label = label; name = n.value }) (drop n.width (drop 1 s)))))
+    (ended (record { depth = d; capability = k; label = label; name = n.value }) (drop n.width (drop 1 s)))))
 
 -- the label, after the depth and kind
-unfoldable pub labelled : ℕ → ℕ → List ℕ → Result LineRead Cause
+unfoldable pub labelled : ℕ → Option Capability → List ℕ → Result LineRead Cause
 labelled d k s =
-    with_number (number_read cause.NoLabel s) (λ n. demand (label_in (eqb k 1) n.value) cause.WrongLabel
+    with_number (number_read cause.NoLabel s) (λ n. demand (label_in (is_none k) n.value) cause.WrongLabel
     (named d k n.value (drop n.width s)))
 
 -- no kind's word: what is wrong is told where the visible bytes end
 unfoldable pub unworded : List ℕ → Result LineRead Cause
 unworded s = Err (cause_at cause.UnknownKind (drop (shown s) s))
 
+-- the kind, after the depth: the first of the kinds given whose word the bytes start with
+unfoldable pub worded_by : List (Option Capability) → ℕ → List ℕ → Result LineRead Cause
+worded_by [] d s = unworded s
+worded_by (k ∷ ks) d s = elim (starts (kind_word k) s) [ true ↦ labelled d k (drop (length (kind_word k)) s) | false ↦ worded_by ks d s ]
+
+-- all kinds
+unfoldable pub kinds : List (Option Capability)
+kinds = None ∷ Some cap-in ∷ Some cap-out ∷ Some cap-open ∷ []
+
 -- the kind, after the depth
 unfoldable pub worded : ℕ → List ℕ → Result LineRead Cause
-worded d s =
-    elim (starts ambient_word s) [
-      | true ↦ labelled d 1 (drop 8 s)
-      | false ↦ elim (starts in_word s) [
-        | true ↦ labelled d 2 (drop 3 s)
-        | false ↦ elim (starts out_word s) [
-          | true ↦ labelled d 3 (drop 4 s)
-          | false ↦ elim (starts open_word s) [ true ↦ labelled d 4 (drop 5 s) | false ↦ unworded s ]
-        ]
-      ]
-    ]
+worded d s = worded_by kinds d s
 
 -- the cause of a wrong indentation before s: only the first line may not be indented at all
 unfoldable pub indent_cause : Cause → ℕ → List ℕ → Cause
@@ -170,7 +171,7 @@ scan room s = scan_from room 0 s
 
 -- the record of a line, under a parent
 unfoldable pub record_of : Line → ℕ → Rec
-record_of l p = record { kind = l.kind; label = l.label; name = l.name; parent = p }
+record_of l p = record { kind = kind_byte l.capability; label = l.label; name = l.name; parent = p }
 
 -- the records of lines numbered from k on; entry d of above is the parent of a line of depth d: the nearest line before
 -- with one step less, 0 for depth 0

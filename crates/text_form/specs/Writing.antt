@@ -5,7 +5,7 @@ use Rattle.model.specs.Climbing.{hidden}
 use Rattle.model.specs.Finite.{lowest, unequal}
 use Rattle.model.specs.Listing.{field}
 use Rattle.model.specs.Numbers.{number_of}
-use Rattle.model.specs.Records.{at, parent_of, records}
+use Rattle.model.specs.Records.{at, capability, parent_of, records}
 use Rattle.model.specs.Refusals.{Check, and_then, content, need, pass, refuse}
 use Rattle.model.specs.Tables.{suspects, table_right}
 use Rattle.model.specs.Validity.{validity}
@@ -21,40 +21,25 @@ use Rattle.text_form.specs.declared.WriteError.TheVariants as error
 unfoldable pub is_child : List Rec → ℕ → ℕ → Bool
 is_child its p j = unequal (at its j).kind 0 && eqb (parent_of its j) p
 
--- a number, 0 where there is none
-unfoldable pub or_zero : Option ℕ → ℕ
-or_zero None = 0
-or_zero (Some j) = j
-
 -- the lowest child of p with a number over after
 abbrev pub child_over : List Rec → ℕ → ℕ → Option ℕ
 child_over its p after = lowest (is_child its p) (suc after) (length its - after)
 
--- the same, 0 where there is none
-unfoldable pub child_after : List Rec → ℕ → ℕ → ℕ
-child_after its p after = or_zero (child_over its p after)
-
--- the child j at a depth, and otherwise what is found further up
-unfoldable pub child_or : ℕ → ℕ → Visit → Visit
-child_or zero d up = up
-child_or (suc j) d up = record { number = suc j; depth = d }
+-- a child at a depth, and otherwise what is found further up
+unfoldable pub child_or : Option ℕ → ℕ → Option Visit → Option Visit
+child_or None d up = up
+child_or (Some j) d up = Some (record { number = j; depth = d })
 
 -- the next record to visit after those up to number after under p, which has d records above its children: the next
 -- child of p, or else what comes after p
-unfoldable pub next_from : List Rec → ℕ → ℕ → ℕ → Visit
-next_from its zero p after = record { number = child_after its p after; depth = 0 }
-next_from its (suc d) p after = child_or (child_after its p after) (suc d) (next_from its d (parent_of its p) p)
-
--- the visit of a number, none where it is 0
-unfoldable pub visit_of : Visit → Option Visit
-visit_of v = elim v.number [ zero ↦ None | suc j ↦ Some v ]
+unfoldable pub next_from : List Rec → ℕ → ℕ → ℕ → Option Visit
+next_from its zero p after = child_or (child_over its p after) 0 None
+next_from its (suc d) p after = child_or (child_over its p after) (suc d) (next_from its d (parent_of its p) p)
 
 -- at most n visits, from the children of p on, which stand at depth d
 unfoldable pub walk_from : List Rec → ℕ → ℕ → ℕ → List Visit
 walk_from its zero p d = []
-walk_from its (suc n) p d =
-    let v = next_from its d p 0 in
-    elim v.number [ zero ↦ [] | suc j ↦ v ∷ walk_from its n (suc j) (suc v.depth) ]
+walk_from its (suc n) p d = elim (next_from its d p 0) [ None ↦ [] | Some v ↦ v ∷ walk_from its n v.number (suc v.depth) ]
 
 -- every record that is not gone, depth first
 unfoldable pub walk : List Rec → List Visit
@@ -62,7 +47,7 @@ walk its = walk_from its (length its) 0 0
 
 -- the line of a record met at a depth
 unfoldable pub line_at : List Rec → Visit → Line
-line_at its v = let r = at its v.number in record { depth = v.depth; kind = r.kind; label = r.label; name = r.name }
+line_at its v = let r = at its v.number in record { depth = v.depth; capability = capability r.kind; label = r.label; name = r.name }
 
 -- the text form of records
 unfoldable pub text_of : List Rec → List ℕ

@@ -3,32 +3,45 @@
 #![tactic(auto)]
 
 ghost use Rattle.std.specs.Prelude.{◌≡◌};
-ghost use Rattle.text_form.specs.Lines.{kind_word};
+ghost use Rattle.text_form.specs.Lines.{kind_byte, kind_word};
 ghost use Rattle.text_form.specs.declared.WriteError.TheVariants.{Refused};
 
-use model::Refusal;
+use model::{Capability, Refusal};
 use std::fmt;
 
-// A line of the text form: how far it is indented, and the record's kind, label and name.
+// A line of the text form: how far it is indented, and the record's kind, label and name. Its kind is a capability, or none for
+// an ambient.
 #[derive(Clone, Copy)]
 pub struct Line {
     pub depth: usize,
-    pub kind: u8,
+    pub capability: Option<Capability>,
     pub label: u8,
     pub name: u8,
 }
 
 // The word of a kind, with the space after it.
 #[tactic(auto, unfolding(crate::specs::Lines::kind_word, crate::specs::Lines::ambient_word, crate::specs::Lines::in_word, crate::specs::Lines::out_word, crate::specs::Lines::open_word))]
-pub fn kind_word(kind: u8) -> &'static [u8]
+pub fn kind_word(kind: Option<Capability>) -> &'static [u8]
     ensures { result.now ≡ kind_word kind }
 {
     match kind {
-        1 => b"ambient ",
-        2 => b"in ",
-        3 => b"out ",
-        4 => b"open ",
-        _ => b"",
+        None => b"ambient ",
+        Some(Capability::In) => b"in ",
+        Some(Capability::Out) => b"out ",
+        Some(Capability::Open) => b"open ",
+    }
+}
+
+// The number of a kind in a record.
+#[tactic(auto, unfolding(crate::specs::Lines::kind_byte, model::specs::Scripts::kind_of))]
+pub fn kind_byte(kind: Option<Capability>) -> u8
+    ensures { result ≡ kind_byte kind }
+{
+    match kind {
+        None => 1,
+        Some(Capability::In) => 2,
+        Some(Capability::Out) => 3,
+        Some(Capability::Open) => 4,
     }
 }
 

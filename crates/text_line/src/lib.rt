@@ -1,13 +1,14 @@
 // Reading a line of the text form: indentation, kind, label, name and end, or the cause of its fault.
 #![tactic(auto)]
 
-ghost use Rattle.std.specs.Prelude.{◌≡◌, eqb};
-ghost use Rattle.model.specs.Validity.{label_in};
+ghost use Rattle.std.specs.Prelude.{◌≡◌};
 ghost use Rattle.text_form.specs.Reading.{ended, indent_cause, labelled, line_read, named, unworded, worded};
 
+use model::Capability;
 use text_form::{Cause, Line, LineRead};
 
 // The end of a line.
+#[tactic(auto, unfolding(text_form::specs::Reading::ended, text_form::specs::Reading::demand))]
 fn ended(line: Line, s: &[u8]) -> Result<LineRead, Cause>
     ensures { result ≡ ended line s.now }
 {
@@ -24,8 +25,14 @@ fn ended(line: Line, s: &[u8]) -> Result<LineRead, Cause>
 }
 
 // The name and the end of a line.
-fn named(depth: usize, kind: u8, label: u8, s: &[u8]) -> Result<LineRead, Cause>
-    ensures { result ≡ named depth kind label s.now }
+#[tactic(auto, unfolding(text_form::specs::Reading::named, text_form::specs::Reading::demand, text_form::specs::Reading::with_number))]
+fn named(
+    depth: usize,
+    capability: Option<Capability>,
+    label: u8,
+    s: &[u8],
+) -> Result<LineRead, Cause>
+    ensures { result ≡ named depth capability label s.now }
 {
     if text_numeral::byte_at(s, 0) != b' ' {
         return Err(text_numeral::cause_at(Cause::NoName, s));
@@ -37,36 +44,27 @@ fn named(depth: usize, kind: u8, label: u8, s: &[u8]) -> Result<LineRead, Cause>
     }
     let line = Line {
         depth,
-        kind,
+        capability,
         label,
         name: name.value as u8,
     };
     ended(line, &rest[name.width..])
 }
 
-// Whether a label is right for its kind.
-#[tactic(auto, unfolding(model::specs::Validity::label_in))]
-fn label_in(kind: u8, label: u16) -> bool
-    ensures { result ≡ label_in (eqb kind 1) label }
-{
-    if kind == 1 {
-        return (1 <= label) & (label <= 63);
-    }
-    (64 <= label) & (label <= 127)
-}
-
 // The label and what follows it.
-fn labelled(depth: usize, kind: u8, s: &[u8]) -> Result<LineRead, Cause>
-    ensures { result ≡ labelled depth kind s.now }
+#[tactic(auto, unfolding(text_form::specs::Reading::labelled, text_form::specs::Reading::demand, text_form::specs::Reading::with_number))]
+fn labelled(depth: usize, capability: Option<Capability>, s: &[u8]) -> Result<LineRead, Cause>
+    ensures { result ≡ labelled depth capability s.now }
 {
     let label = text_numeral::number(Cause::NoLabel, s)?;
-    if !label_in(kind, label.value) {
+    if !record_checks::label_in(capability.is_none(), label.value) {
         return Err(Cause::WrongLabel);
     }
-    named(depth, kind, label.value as u8, &s[label.width..])
+    named(depth, capability, label.value as u8, &s[label.width..])
 }
 
 // No kind's word: the cause by where the visible bytes end.
+#[tactic(auto, unfolding(text_form::specs::Reading::unworded))]
 fn unworded(s: &[u8]) -> Result<LineRead, Cause>
     ensures { result ≡ unworded s.now }
 {
@@ -78,9 +76,15 @@ fn unworded(s: &[u8]) -> Result<LineRead, Cause>
 fn worded(depth: usize, s: &[u8]) -> Result<LineRead, Cause>
     ensures { result ≡ worded depth s.now }
 {
-    for kind in 1..5 {
-        if let Some(rest) = s.strip_prefix(text_form::kind_word(kind)) {
-            return labelled(depth, kind, rest);
+    let kinds = [
+        None,
+        Some(Capability::In),
+        Some(Capability::Out),
+        Some(Capability::Open),
+    ];
+    for capability in kinds {
+        if let Some(rest) = s.strip_prefix(text_form::kind_word(capability)) {
+            return labelled(depth, capability, rest);
         }
     }
     unworded(s)
@@ -98,6 +102,7 @@ fn indent_cause(given: Cause, deepest: usize, s: &[u8]) -> Cause
 }
 
 // The line that the bytes start with.
+#[tactic(auto, unfolding(text_form::specs::Reading::line_read, text_form::specs::Reading::demand))]
 pub fn read_line(s: &[u8], deepest: usize) -> Result<LineRead, Cause>
     ensures { result ≡ line_read deepest s.now }
 {

@@ -37,6 +37,7 @@ pub fn byte_at(s: &[u8], j: usize) -> u8
 }
 
 // The cause of a fault where s stands: invisible bytes that s starts with, and otherwise the one given.
+#[tactic(auto, using(text_form::specs::Laws::Scanning::starts_tested), unfolding(text_form::specs::Reading::cause_at, text_form::specs::Reading::mark_bytes))]
 pub fn cause_at(given: Cause, s: &[u8]) -> Cause
     ensures { result ≡ cause_at given s.now }
 {
@@ -53,10 +54,11 @@ pub fn cause_at(given: Cause, s: &[u8]) -> Cause
 fn digit(c: u8) -> bool
     ensures { result ≡ digit c }
 {
-    (48 <= c) & (c <= 57)
+    (b'0' <= c) & (c <= b'9')
 }
 
 // The number whose first three bytes are these.
+#[tactic(auto, unfolding(text_form::specs::Reading::numeral_of, text_form::specs::Reading::digit))]
 fn numeral_of(a: u8, b: u8, c: u8) -> Option<Decimal>
     ensures { result ≡ numeral_of a b c }
 {
@@ -66,18 +68,18 @@ fn numeral_of(a: u8, b: u8, c: u8) -> Option<Decimal>
     if a == b'0' {
         return Some(Decimal { value: 0, width: 1 });
     }
-    let x = (a - 48) as u16;
+    let x = (a - b'0') as u16;
     if !digit(b) {
         return Some(Decimal { value: x, width: 1 });
     }
-    let y = (b - 48) as u16;
+    let y = (b - b'0') as u16;
     if !digit(c) {
         return Some(Decimal {
             value: 10 * x + y,
             width: 2,
         });
     }
-    let z = (c - 48) as u16;
+    let z = (c - b'0') as u16;
     Some(Decimal {
         value: 100 * x + (10 * y + z),
         width: 3,
@@ -85,6 +87,7 @@ fn numeral_of(a: u8, b: u8, c: u8) -> Option<Decimal>
 }
 
 // The number that the bytes start with.
+#[tactic(auto, unfolding(text_form::specs::Reading::numeral))]
 fn numeral(s: &[u8]) -> Option<Decimal>
     ensures { result ≡ numeral s.now }
 {
@@ -104,6 +107,7 @@ fn digits_cause(width: usize) -> Cause
 }
 
 // The number that the bytes start with, or what is wrong with it: it is missing, or digits stand after it.
+#[tactic(auto, unfolding(text_form::specs::Reading::number_read, text_form::specs::Reading::number_alone))]
 pub fn number(missing: Cause, s: &[u8]) -> Result<Decimal, Cause>
     ensures { result ≡ number_read missing s.now }
 {

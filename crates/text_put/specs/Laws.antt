@@ -8,7 +8,7 @@ use borrow.Rule.Slice.PartMut.{put_mid}
 use native.Mathlib.Omega.{arith}
 use Rattle.model.specs.Listing.{digits_in, field, last_field}
 use Rattle.text_put.specs.Digits.{digits-few}
-use Rattle.text_put.specs.Puts.{Put, Putting, over, splice}
+use Rattle.text_put.specs.Puts.{Put, Putting, field_by, over, splice}
 
 module _ (t : List ℕ) (p : ℕ) (w : List ℕ) where
   -- bytes put after bytes that were put
@@ -96,38 +96,49 @@ pub last_then : (n : ℕ) (v w : List ℕ) → last_field n v ++ w ≡ last_fiel
 unfolding last_field
 last_then n v w = append_assoc (digits_in 5 n) (10 ∷ v) w
 
-pub field-length : (n : ℕ) (v : List ℕ) → length (field n v) ≡ length (digits_in 5 n) + (1 + length v)
-unfolding field
-field-length n v = length-append (digits_in 5 n) (32 ∷ v) ∙ omega arith
+-- a space ends a field, and byte 10 the last one
+pub field-by : (n : ℕ) (v : List ℕ) → field_by n 32 ++ v ≡ field n v
+unfolding field field_by
+field-by n v = append_assoc (digits_in 5 n) (32 ∷ []) v
 
-pub last-length : (n : ℕ) (v : List ℕ) → length (last_field n v) ≡ length (digits_in 5 n) + (1 + length v)
-unfolding last_field
-last-length n v = length-append (digits_in 5 n) (10 ∷ v) ∙ omega arith
+pub last-by : (n : ℕ) (v : List ℕ) → field_by n 10 ++ v ≡ last_field n v
+unfolding last_field field_by
+last-by n v = append_assoc (digits_in 5 n) (10 ∷ []) v
+
+pub field-length : (n : ℕ) (v : List ℕ) → length (field n v) ≡ length (field_by n 32) + length v
+field-length n v = ap length (sym (field-by n v)) ∙ length-append (field_by n 32) v
+
+pub last-length : (n : ℕ) (v : List ℕ) → length (last_field n v) ≡ length (field_by n 10) + length v
+last-length n v = ap length (sym (last-by n v)) ∙ length-append (field_by n 10) v
+
+pub by-length : (n end : ℕ) → length (field_by n end) ≡ length (digits_in 5 n) + 1
+unfolding field_by
+by-length n end = length-append (digits_in 5 n) (end ∷ [])
 
 -- no field is longer than five digits and the byte after them
-pub field-few : (n : ℕ) → length (field n []) ≤ 6
-field-few n = omega (arith, field-length n [], digits-few 5 n)
+pub by-short : (n end : ℕ) → length (field_by n end) ≤ 6
+by-short n end = omega (arith, by-length n end, digits-few 5 n)
 
-pub last-few : (n : ℕ) → length (last_field n []) ≤ 6
-last-few n = omega (arith, last-length n [], digits-few 5 n)
+pub by-room : (n end p l : ℕ) → p + 6 ≤ l → p + length (field_by n end) ≤ l
+by-room n end p l h = omega (arith, h, by-short n end)
+
+pub field-few : (n : ℕ) → length (field n []) ≤ 6
+field-few n = omega (arith, field-length n [], by-short n 32)
 
 -- a number's digits and the byte after them
-pub field_put : (n : ℕ) {t t₁ t₂ : List ℕ} {p e₁ e₂ : ℕ} → p + length (field n []) ≤ length t → Put t p (digits_in 5 n) t₁ e₁ → Put t₁ e₁ (32 ∷ []) t₂ e₂ → Put t p (field n []) t₂ e₂
-unfolding field
-field_put n h x y = put_then x y (omega (arith, length-append (digits_in 5 n) (32 ∷ []), x.end, y.end))
-
-pub last-put : (n : ℕ) {t t₁ t₂ : List ℕ} {p e₁ e₂ : ℕ} → p + length (last_field n []) ≤ length t → Put t p (digits_in 5 n) t₁ e₁ → Put t₁ e₁ (10 ∷ []) t₂ e₂ → Put t p (last_field n []) t₂ e₂
-unfolding last_field
-last-put n h x y = put_then x y (omega (arith, length-append (digits_in 5 n) (10 ∷ []), x.end, y.end))
+pub field_put : (n end : ℕ) {t t₁ t₂ : List ℕ} {p e₁ e₂ : ℕ} → p + length (field_by n end) ≤ length t → Put t p (digits_in 5 n) t₁ e₁ → Put t₁ e₁ (end ∷ []) t₂ e₂ → Put t p (field_by n end) t₂ e₂
+unfolding field_by
+field_put n end h x y = put_then x y (omega (arith, length-append (digits_in 5 n) (end ∷ []), x.end, y.end))
 
 -- a word and two numbers put one after the other
 pub line-put : (n m : ℕ) {t w t₁ t₂ t₃ : List ℕ} {e₁ e₂ e₃ : ℕ} → length w + 12 ≤ length t →
-    Put t 0 w t₁ e₁ → Put t₁ e₁ (field n []) t₂ e₂ → Put t₂ e₂ (last_field m []) t₃ e₃ → Put t 0 (w ++ field n (last_field m [])) t₃ e₃
+    Put t 0 w t₁ e₁ → Put t₁ e₁ (field_by n 32) t₂ e₂ → Put t₂ e₂ (field_by m 10) t₃ e₃ → Put t 0 (w ++ field n (last_field m [])) t₃ e₃
+unfolding last_field field_by
 line-put n m {w = w} h x y z =
-    let k = field-few n in
-    let l = last-few m in
-    put_as (append_assoc w (field n []) (last_field m []) ∙ ap (λ v. w ++ v) (field-then n [] (last_field m [])))
+    let k = by-short n 32 in
+    let l = by-short m 10 in
+    put_as (append_assoc w (field_by n 32) (field_by m 10) ∙ ap (λ v. w ++ v) (field-by n (field_by m 10)))
     (put_then (put_then x y (omega (arith, x.end, y.end))) z (omega (arith, x.end, y.end, z.end)))
 
 pub line-few : (n m : ℕ) → length (field n (last_field m [])) ≤ 12
-line-few n m = omega (arith, field-length n (last_field m []), field-length n [], field-few n, last-few m)
+line-few n m = omega (arith, field-length n (last_field m []), by-short n 32, last-length m [], by-short m 10)

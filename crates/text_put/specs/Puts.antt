@@ -1,5 +1,10 @@
 -- Bytes put at a place of a lent text.
-use Rattle.std.specs.Prelude.{◌+◌, ◌≤◌, ℕ, drop, length, take, List, ◌++◌, ◌≡◌}
+use Rattle.std.specs.Prelude.{◌+◌, ◌≤◌, ℕ, drop, length, take, List, [], ◌++◌, ◌∷◌, ◌≡◌}
+use Rattle.model.specs.Listing.{digits_in}
+
+-- a field that is a number, and the byte that ends it
+unfoldable pub field_by : ℕ → ℕ → List ℕ
+field_by n end = digits_in 5 n ++ (end ∷ [])
 
 -- the bytes t with w put at a place
 unfoldable pub splice : ℕ → List ℕ → List ℕ → List ℕ

@@ -4,7 +4,7 @@
 
 ghost use Rattle.std.specs.Prelude.{◌+◌, ◌≤◌, length, [], ◌++◌, ◌∷◌};
 ghost use Rattle.model.specs.Listing.{digits_in, field, last_field};
-ghost use Rattle.text_put.specs.Puts.{Put};
+ghost use Rattle.text_put.specs.Puts.{Put, field_by};
 
 // Puts bytes at a place, and answers the place after them.
 pub fn put(text: &mut [u8], at: usize, word: &[u8]) -> usize
@@ -37,22 +37,13 @@ pub fn put_number(text: &mut [u8], at: usize, n: u16) -> usize
     put_byte(text, last, (48 + n % 10) as u8)
 }
 
-// Puts a number and the space that parts it from the next field.
-pub fn put_field(text: &mut [u8], at: usize, n: u16) -> usize
-    requires { at + length (field n []) ≤ length text.old }
-    ensures { Put text.old at (field n []) text.new result }
+// Puts a number and the byte that ends its field: a space, or the line's end.
+pub fn put_field(text: &mut [u8], at: usize, n: u16, end: u8) -> usize
+    requires { at + length (field_by n end) ≤ length text.old }
+    ensures { Put text.old at (field_by n end) text.new result }
 {
-    let end = put_number(text, at, n);
-    put_byte(text, end, b' ')
-}
-
-// Puts a number and the end of the line.
-pub fn put_last(text: &mut [u8], at: usize, n: u16) -> usize
-    requires { at + length (last_field n []) ≤ length text.old }
-    ensures { Put text.old at (last_field n []) text.new result }
-{
-    let end = put_number(text, at, n);
-    put_byte(text, end, b'\n')
+    let last = put_number(text, at, n);
+    put_byte(text, last, end)
 }
 
 // Puts a line of a word and two numbers at the start.
@@ -61,6 +52,6 @@ pub fn put_line(text: &mut [u8], word: &[u8], n: u16, m: u16) -> usize
     ensures { Put text.old 0 (word.now ++ field n (last_field m [])) text.new result }
 {
     let first = put(text, 0, word);
-    let last = put_field(text, first, n);
-    put_last(text, last, m)
+    let last = put_field(text, first, n, b' ');
+    put_field(text, last, m, b'\n')
 }

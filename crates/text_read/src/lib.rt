@@ -10,6 +10,7 @@ use model::Rec;
 use text_form::{Cause, Fault, Line};
 
 // Writes the record of line k + 1, under its parent, and has it stand above the lines one step deeper.
+#[tactic(auto, unfolding(text_form::specs::Reading::record_of))]
 fn place(it: &mut [u8], above: &mut [u16], k: u16, line: Line)
     requires { Placeable it.old above.old k line.depth }
     ensures bytes { it.new ≡ with_record it.old (k + 1) (record_of line (get_or above.old line.depth 0)) }
@@ -17,7 +18,7 @@ fn place(it: &mut [u8], above: &mut [u16], k: u16, line: Line)
 {
     let depth = line.depth;
     let r = Rec {
-        kind: line.kind,
+        kind: text_form::kind_byte(line.capability),
         label: line.label,
         name: line.name,
         parent: above[depth],
@@ -27,6 +28,7 @@ fn place(it: &mut [u8], above: &mut [u16], k: u16, line: Line)
 }
 
 // The records of the text's lines, as many as there is room for. The bytes after them stay.
+// The loop goes by how many bytes each line takes, which a line's reading tells, so no `for` fits.
 fn scan(text: &[u8], it: &mut [u8], room: u16) -> Result<u16, Fault>
     requires few { room ≤ 1024 }
     requires fits { 8 * room ≤ length it.old }

@@ -5,7 +5,7 @@ ghost use Rattle.std.specs.Prelude.{◌≡◌, ◌+◌, ◌≤◌};
 ghost use Rattle.std.specs.Iterator.{YieldsFirst, item_count};
 ghost use Rattle.model.specs.Records.{records};
 ghost use Rattle.text_form.specs.Parts.{Whole};
-ghost use Rattle.text_form.specs.Writing.{child_over, next_from, visit_of, walk};
+ghost use Rattle.text_form.specs.Writing.{child_over, next_from, walk};
 
 use text_form::Visit;
 
@@ -17,29 +17,30 @@ fn child_over(it: &[u8], p: u16, after: u16) -> Option<u16>
     let n = (it.len() / 8) as u16;
     for j in after..n {
         let r = records::record_at(it, j + 1);
-        if (r.kind != 0) & (r.parent == p) {
+        if !r.is_gone() & (r.parent == p) {
             return Some(j + 1);
         }
     }
     None
 }
 
-// The record to visit after record p, whose children stand at depth d. (The loop climbs: it goes by the parents.)
+// The record to visit after record p, whose children stand at depth d.
 fn next_visit(it: &[u8], p: u16, d: usize) -> Option<Visit>
     requires { Whole it.now }
-    ensures { result ≡ visit_of (next_from (records it.now) d p 0) }
+    ensures { result ≡ next_from (records it.now) d p 0 }
 {
     let mut q = p;
     let mut after: u16 = 0;
-    let mut e = d;
-    while 0 < e {
+    for above in (0..d).rev() {
         if let Some(number) = child_over(it, q, after) {
-            return Some(Visit { number, depth: e });
+            return Some(Visit {
+                number,
+                depth: above + 1,
+            });
         }
         let r = records::record_at(it, q);
         after = q;
         q = r.parent;
-        e -= 1;
     }
     let number = child_over(it, q, after)?;
     Some(Visit { number, depth: 0 })

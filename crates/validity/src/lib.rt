@@ -1,7 +1,7 @@
 // Refusals 1 to 6: what makes bytes an itinerary.
-#![tactic(auto)]
+#![tactic(auto, unfolding(model::specs::Numbers::check_as, model::specs::Numbers::number_of, model::specs::Refusals::and_then, model::specs::Validity::form, model::specs::Validity::size_right, model::specs::Validity::validity))]
 
-ghost use Rattle.std.specs.Prelude.{◌≡◌};
+ghost use Rattle.std.specs.Prelude.{◌≡◌, IfOk};
 ghost use Rattle.model.specs.Numbers.{check_as};
 ghost use Rattle.model.specs.Records.{count, records};
 ghost use Rattle.model.specs.Refusals.{each_of};
@@ -10,6 +10,7 @@ ghost use Rattle.validity.specs.Arriving.{arriving};
 ghost use Rattle.ways.specs.Ways.{Noting, Parented};
 
 use model::{Cause, Refusal};
+use records::Itinerary;
 use ways::Finds;
 
 // What a climb finds that asks only whether the environment is reached: nothing more.
@@ -49,7 +50,6 @@ fn climbs(it: &[u8], n: u16) -> Result<(), Refusal>
 }
 
 // Refusals 1 to 6. Each looks only at what those before it let through.
-#[tactic(auto, unfolding(model::specs::Numbers::check_as, model::specs::Numbers::number_of, model::specs::Refusals::and_then, model::specs::Validity::form, model::specs::Validity::size_right))]
 pub fn form(it: &[u8]) -> Result<(), Refusal>
     ensures { check_as result ≡ form it.now }
 {
@@ -60,9 +60,11 @@ pub fn form(it: &[u8]) -> Result<(), Refusal>
     climbs(it, n)
 }
 
-// What every call on an itinerary looks for first.
-pub fn validity(it: &[u8]) -> Result<(), Refusal>
-    ensures { check_as result ≡ validity it.now }
+// What every call on an itinerary looks for first; the itinerary that passes.
+pub fn validity(it: &[u8]) -> Result<Itinerary, Refusal>
+    ensures checks { check_as result ≡ validity it.now }
+    ensures same { IfOk result (λ passed. passed ≡ it.now) }
 {
-    form(it)
+    form(it)?;
+    Ok(Itinerary { bytes: it })
 }

@@ -71,7 +71,9 @@ fn meets(r: Labels, stop: Labels) -> bool
     met
 }
 
-// The reached labels, until one of them is a label to stop at: each label goes one step on, once, unless it is a boundary.
+// The reached labels, until one of them is a label to stop at: each label goes one step on, once, unless it is a boundary. (A
+// `for` has no place here: what is to go on grows as the loop runs. Policy and table are two parameters, as in the definitions;
+// a struct of both would be taken apart in each body.)
 fn reach_until(policy: &Policy, table: &Table, stop: Labels) -> Labels
     ensures { Until (in_r (parts (bits table.now)) policy.now) (marked stop) (marked result) }
 {

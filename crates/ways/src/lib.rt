@@ -52,17 +52,18 @@ fn extend<T>(it: &[u8], notes: &[Option<T>], way: &mut Way, i: u16)
     requires starts { Starts it.now i way.old }
     ensures { Leads it.now i way.new }
 {
-    while way.len < 32 {
+    for k in 1..32 {
         if notes[way.top as usize].is_some() {
             return;
         }
-        way.numbers[way.len] = way.top;
+        way.numbers[k] = way.top;
         way.top = records::parent_of(it, way.top);
-        way.len += 1;
+        way.len = k + 1;
     }
 }
 
-// Notes what is found at the numbers of a way, from the last back to the first, which is i; and answers it for that.
+// Notes what is found at the numbers of a way, from the last back to the first, which is i; and answers it for that. (It goes by
+// their places, not by an iterator over a part of them: how much is noted is said of a place.)
 fn note<V: Finds>(
     it: &[u8],
     view: &V,
@@ -88,7 +89,8 @@ fn note<V: Finds>(
 
 // What is found at record i, if as many climbs as are left reach the environment. The climb ends below a number that has its
 // note, the environment first of all, and notes what it finds for the records it passed. It goes up a way of several records
-// a call: a call costs more than a record.
+// a call: a call costs more than a record. (What it carries along is no struct: one that holds the loan of the notes would owe in
+// each contract that it is the same loan.)
 fn climb<V: Finds>(
     it: &[u8],
     view: &V,

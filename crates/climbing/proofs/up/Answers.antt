@@ -1,9 +1,10 @@
 -- `climbing::up` meets its contract.
+use mathlib.Core.Path.{◌∙◌, sym}
 use Rattle.climbing.specs.Active.{up-over, up-stays}
 use Rattle.climbing.proofs.up.Goals as goal
 
-pub returns-then-r-eq1 : goal.returns-then-r-eq1
-returns-then-r-eq1 c = up-over _ _ _ c.record_at-r.ensures c.if-r-eq1.true
+pub returns-then-is_ambient : goal.returns-then-is_ambient
+returns-then-is_ambient c = up-over _ _ _ c.record_at-r.ensures (sym c.is_ambient.ensures ∙ c.if-is_ambient.true)
 
-pub returns-else-r-eq1 : goal.returns-else-r-eq1
-returns-else-r-eq1 c = up-stays _ _ _ c.record_at-r.ensures c.if-r-eq1.false
+pub returns-else-is_ambient : goal.returns-else-is_ambient
+returns-else-is_ambient c = up-stays _ _ _ c.record_at-r.ensures (sym c.is_ambient.ensures ∙ c.if-is_ambient.false)

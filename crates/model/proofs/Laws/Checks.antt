@@ -1,7 +1,6 @@
 -- The laws of checks in sequence: what they let through, what a call answers by them, and what its buffers keep. The code
--- holds what a sequence of checks found as a Result, and goes on by `?`: `passed`, `refused-by`, `stopped` and `goes_on` say
--- what that tells of the sequence; what a sequence that passed says is found by `search passes`, and that one passes by
--- `search all_pass`.
+-- holds what a sequence of checks found as a Result, and goes on by `?`: `passed` and `refused-by` say what that tells of
+-- the sequence; what a sequence that passed says is found by `search passes`, and that one passes by `search all_pass`.
 use Prim.Native.Nat.{◌+◌, ◌-◌, ◌<◌, ◌≤◌, suc, zero, ℕ}
 use Rattle.std.proofs.Common.{eqb-true, ◌∙◌}
 use Rattle.std.specs.Prelude.{length, Bool, false, true, List, ◌≡◌, Result, Ok, Err}
@@ -156,16 +155,6 @@ module _ {A : Type 0} (v : Result A Refusal) (k : Check) (h : check_as v ≡ k) 
   unfolding check_as
   refused-by e = sym h ∙ ap check_as e
 
-  -- a check that refuses stands for every longer sequence
-  pub stopped : (w : Result (Unit {0}) Refusal) {r : Refusal} (next : Check) → v ≡ Err r → w ≡ Err r → check_as w ≡ and_then k next
-  unfolding check_as and_then
-  stopped w next e q = rw (q, refused-by e)
-
-  -- behind a check that passes the next decides
-  pub goes_on : (w : Result (Unit {0}) Refusal) {x : A} (next : Check) → v ≡ Ok x → check_as w ≡ next → check_as w ≡ and_then k next
-  unfolding and_then
-  goes_on w next e q = q ∙ sym (then_next next (passed e))
-
 -- what an answer says of the check behind it
 module _ {A : Type 0} (v : Result A Refusal) (k : Check) (x : A) (h : answer_as v ≡ answer k x) where
   pub answered-done : {y : A} → v ≡ Ok y → k ≡ pass
@@ -175,12 +164,6 @@ module _ {A : Type 0} (v : Result A Refusal) (k : Check) (x : A) (h : answer_as 
   pub answered-refused : {r : Refusal} → v ≡ Err r → k ≡ refuse (number_of r.cause) r.«record»
   unfolding answer_as refusal
   answered-refused e = answer-refused k x (sym h ∙ ap answer_as e)
-
--- a call that answers its checks alone
-pub answer-check : (v : Result (Unit {0}) Refusal) (k : Check) → check_as v ≡ k → answer_as v ≡ answer k tt
-unfolding check_as answer_as refusal answer
-answer-check (Ok x) k e = ap (λ c. answer c tt) e
-answer-check (Err r) k e = ap (λ c. answer c tt) e
 
 -- ---- what a check that passed says
 

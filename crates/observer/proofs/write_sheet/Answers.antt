@@ -7,4 +7,8 @@ use Rattle.ways.specs.Valid.{valid-parented}
 use Rattle.observer.proofs.write_sheet.Goals as goal
 
 pub hide-requires : goal.hide-requires
-hide-requires c = record { valid = c.requires.valid; noting = noting-root (hiding (suspects c.args.table.now)) (valid-parented _ c.requires.valid); copied = c.copy.ensures }
+hide-requires c = record {
+  valid = c.it.invariant;
+  noting = noting-root (hiding (suspects c.args.table.now)) (valid-parented _ c.it.invariant);
+  copied = c.copy.ensures;
+}

@@ -5,7 +5,7 @@ use Rattle.screen_text.proofs.screen_text.Goals as goal
 
 pub put_screen-requires : goal.put_screen-requires
 put_screen-requires c =
-    let screen = c.screen in let w = room-done _ c.args.policy.now _ _ screen.result screen.ensures.answer _ c.in-Ok.is _ screen.ensures.answers screen.auto.answers _ (search rules) in record { right = w.0; fits = w.1 }
+    let screen = c.screen in room-done _ c.args.policy.now _ _ screen.result screen.ensures.answer _ c.in-Ok.is _ screen.ensures.answers _ (search rules)
 
 pub returns-in-Err : goal.returns-in-Err
 returns-in-Err c =

@@ -2,13 +2,11 @@
 use Rattle.model.proofs.Laws.Checks.{passes}
 use Rattle.model.specs.Calls.{entry, screening}
 use Rattle.screens.specs.Laws.{run-sized, screen-done}
-use Rattle.std.proofs.Common.{rules}
 use Rattle.screens.proofs.screen_with.Goals as goal
 
-pub write_least-ones-requires : goal.write_least-ones-requires
+pub invariant_of-write_least : goal.invariant_of-write_least
 unfolding screening entry
-write_least-ones-requires c =
-    let e = c.requires in record { valid = search passes depth 20; table_len = search rules }
+invariant_of-write_least c = let e = c.requires in search passes depth 20
 
 pub run-counts-requires : goal.run-counts-requires
 unfolding screening entry

@@ -9,7 +9,7 @@ loop-i-init c = (omega arith, none_yet _)
 pub loop-i-preserved : goal.loop-i-preserved
 loop-i-preserved c = (
   omega (arith, c.present-sum.ensures.one_at_most),
-  one_more _ c.requires.whole _ _ _ _ c.loop-i.invariant.1 c.byte_of.ensures c.present-sum.ensures.counted,
+  one_more _ c.requires.whole _ _ _ _ c.loop-i.invariant.1 c.record_at.ensures c.present-sum.ensures.counted,
 )
 
 pub returns : goal.returns

@@ -2,6 +2,7 @@
 use Rattle.model.specs.Records.{count}
 use Rattle.records.specs.Written.{pass-end, pass-length, pass-next, pass-read, pass-whole, written_none}
 use Rattle.steps.specs.Moves.{applied}
+use Rattle.std.proofs.Common.{rules}
 use native.Mathlib.Omega.{arith}
 use mathlib.Core.Path.{◌∙◌, refl}
 use Rattle.model.proofs.Laws.Bytes.{valid-few, valid-whole}
@@ -19,7 +20,7 @@ overflow_add-i c = omega (arith, valid-few _ c.requires)
 pub remake-requires : goal.remake-requires
 unfolding count
 remake-requires c = let e = pass-length _ _ _ _ _ c.loop-i.invariant (omega arith) (omega arith) in
-    (omega arith, omega arith, pass-whole _ _ _ _ c.loop-i.invariant (λ j. omega (arith, c.slice_known-1.given j)) c.requires (omega arith))
+    record { some = omega arith; inside = omega arith; whole = pass-whole _ _ _ _ c.loop-i.invariant (λ j. search rules) c.requires (omega arith) }
 
 pub loop-i-preserved : goal.loop-i-preserved
 unfolding count

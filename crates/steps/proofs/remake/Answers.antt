@@ -6,7 +6,7 @@ use mathlib.Core.Path.{◌∙◌, ap, sym}
 use Rattle.steps.proofs.remake.Goals as goal
 
 pub returns-then-not-touched : goal.returns-then-not-touched
-returns-then-not-touched c = sym c.requires.2 ∙ ap (with_record _ _) (sym (untouched _ _ _ (ap (touched_by _ _) (sym c.parent_of-p.ensures) ∙ sym c.touched.ensures ∙ c.if-not-touched.true)))
+returns-then-not-touched c = sym c.requires.whole ∙ ap (with_record _ _) (sym (untouched _ _ _ (ap (touched_by _ _) (sym c.parent_of-p.ensures) ∙ sym c.touched.ensures ∙ c.if-not-touched.true)))
 
 pub returns : goal.returns
 returns c = c.put_record.ensures ∙ ap (with_record _ _) (c.remade.ensures ∙ ap (remade _ _) c.record_at-r.ensures)

@@ -6,7 +6,7 @@ use mathlib.Core.List.{List}
 use mathlib.Core.Path.{◌∙◌, ap, subst₂, sym}
 use native.Mathlib.Omega.{arith}
 use Rattle.table_closure.proofs.sweep.Goals as goal
-use Rattle.table_closure.proofs.sweep.Goals.{then-dirty_before-dirty-ne0, else-dirty_before-dirty-ne0}
+use Rattle.table_closure.proofs.sweep.Goals.{then-changed-w-ne0, else-changed-w-ne0}
 
 pub loop-p-init : goal.loop-p-init
 loop-p-init c = (c.told-w, sweep-none c.args.movers.now c.args.w.now c.args.dirty_before c.requires)
@@ -16,9 +16,9 @@ loop-p-preserved c =
     let a = c.args in let m = a.movers.now in
     let l = c.loop-p in let h : l.p < 64 = omega arith in
     let at : List ℕ → ℕ → Type 0 = λ w dirty. Sweeping m a.w.now w a.dirty_before dirty (l.p + 1) in
-    elim c.if-dirty_before-dirty-ne0.branch [
-      | then-dirty_before-dirty-ne0 v ↦ (ap length v.w-is ∙ v.close_row-dirty.array_long, subst₂ at (sym v.w-is) (sym v.dirty-is) (sweep-row m a.w.now a.dirty_before l.w l.dirty l.p h l.invariant.1 v.close_row-dirty.new.w v.close_row-dirty.result v.close_row-dirty.ensures.grown v.close_row-dirty.ensures.rows_changed))
-      | else-dirty_before-dirty-ne0 v ↦ (ap length v.w-is ∙ l.invariant.0, subst₂ at (sym v.w-is) (sym v.dirty-is) (sweep-skip m a.w.now a.dirty_before l.w l.dirty l.p h l.invariant.1 v.if-dirty_before-dirty-ne0.false))
+    elim c.if-changed-w-ne0.branch [
+      | then-changed-w-ne0 v ↦ (ap length v.w-is ∙ v.close_row-dirty.array_long, subst₂ at (sym v.w-is) (sym v.dirty-is) (sweep-row m a.w.now a.dirty_before l.w l.dirty l.p h l.invariant.1 v.close_row-dirty.new.w v.close_row-dirty.result v.close_row-dirty.ensures.grown v.close_row-dirty.ensures.rows_changed))
+      | else-changed-w-ne0 v ↦ (ap length v.w-is ∙ l.invariant.0, subst₂ at (sym v.w-is) (sym v.dirty-is) (sweep-skip m a.w.now a.dirty_before l.w l.dirty l.p h l.invariant.1 v.if-changed-w-ne0.false))
     ]
 
 pub returns : goal.returns

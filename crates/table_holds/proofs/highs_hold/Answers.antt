@@ -1,28 +1,14 @@
--- The goals of `table_holds::highs_hold`; the argument stands in Invariants.
-use borrow.Author.Count.{below_more}
-use borrow.Author.Tests.{eq-eqb, ne_eqb}
-use mathlib.Core.Bool.{true≢false}
-use mathlib.Core.Path.{◌∙◌, sym}
-use native.Mathlib.Omega.{arith}
-use Rattle.model.specs.Tables.{is_high, place_s}
-use Rattle.tables.specs.Loops.{all_pass, one-fails}
+-- `table_holds::highs_hold` meets its contract: each label with its class, by the first that is high and not suspect.
+use Rattle.std.proofs.Common.{rules, tests}
+use Rattle.std.proofs.lemmas.Iterator.{YieldsList-from_slice, cases_from_all}
+use Rattle.std.proofs.lemmas.Iterator.Consumers.{YieldsList-at, YieldsList-from_enumerate}
+use Rattle.model.specs.Tables.{place_s, suspects}
+use Rattle.table_holds.specs.Laws.{HighHeld, HighLeft, highs}
 use Rattle.table_holds.proofs.highs_hold.Goals as goal
-use Rattle.table_holds.proofs.highs_hold.Goals.{then-policy-k-eq-HIGH+else-not-bit, else-policy-k-eq-HIGH}
-
-pub loop-k-init : goal.loop-k-init
-loop-k-init c = λ x l. absurd (omega arith)
-
-pub returns-then-not-bit : goal.returns-then-not-bit
-unfolding is_high place_s
-returns-then-not-bit c = one-fails 64 _ _ c.loop-k.k (omega arith) (eq-eqb _ _ c.if-policy-k-eq-HIGH.true) (sym c.bit.ensures ∙ c.if-not-bit.true)
-
-pub loop-k-preserved : goal.loop-k-preserved
-unfolding is_high place_s
-loop-k-preserved c =
-    let l = c.loop-k in elim c.if-policy-k-eq-HIGH.branch [
-      | then-policy-k-eq-HIGH+else-not-bit v ↦ below_more _ _ l.invariant (λ _. sym v.bit.ensures ∙ v.if-not-bit.false)
-      | else-policy-k-eq-HIGH v ↦ below_more _ _ l.invariant (λ h. absurd (true≢false (sym h ∙ ne_eqb _ _ v.if-policy-k-eq-HIGH.false)))
-    ]
 
 pub returns : goal.returns
-returns c = all_pass 64 _ _ (λ x l t. c.loop-k.invariant x (omega arith) t)
+unfolding place_s
+returns c =
+    let S = suspects c.args.table.now in
+    highs c.args.policy.now S c.all.result c.told-policy
+    (cases_from_all _ _ _ (HighHeld S) (HighLeft S) c.all.ensures.ran (YieldsList-from_enumerate (YieldsList-at c.enumerate.ensures.source (YieldsList-from_slice c.args.policy.now c.iter.ensures.rest)) c.enumerate.ensures.count) (λ x q k. search (rules, tests)) (λ x q k. search (rules, tests)))

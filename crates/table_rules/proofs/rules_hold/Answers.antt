@@ -6,7 +6,7 @@ use Rattle.table_movers.specs.Movers.{clear-only}
 use Rattle.table_rules.proofs.rules_hold.Goals as goal
 
 pub partners_of-requires : goal.partners_of-requires
-partners_of-requires c = record { valid = c.requires; cleared = replicated 0 192 }
+partners_of-requires c = replicated 0 192
 
 pub movers_of-requires : goal.movers_of-requires
 movers_of-requires c = clear-only _ _ _ (replicated 0 192)
@@ -16,7 +16,7 @@ row_holds-requires c = record { same_bits = c.load.ensures; p_bound = omega arit
 
 pub returns-then-not-row_holds : goal.returns-then-not-row_holds
 returns-then-not-row_holds c =
-    rules-by c.args.it.now c.args.table.now c.load.new.words c.partners_of.new.partners c.movers_of.new.movers _ c.requires c.load.ensures c.partners_of.ensures c.movers_of.ensures
+    rules-by c.args.it.now c.args.table.now c.load.new.words c.partners_of.new.partners c.movers_of.new.movers _ c.partners_of.ensures.valid c.load.ensures c.partners_of.ensures.partners c.movers_of.ensures
     (decide-no _ (λ f. c.row_holds.ensures.passes (f c.loop-p.p (omega arith))) c.if-not-row_holds.true)
 
 pub loop-p-preserved : goal.loop-p-preserved
@@ -24,5 +24,5 @@ loop-p-preserved c = below_more _ _ c.loop-p.invariant (c.row_holds.ensures.hold
 
 pub returns : goal.returns
 returns c =
-    rules-by c.args.it.now c.args.table.now c.load.new.words c.partners_of.new.partners c.movers_of.new.movers _ c.requires c.load.ensures c.partners_of.ensures c.movers_of.ensures
+    rules-by c.args.it.now c.args.table.now c.load.new.words c.partners_of.new.partners c.movers_of.new.movers _ c.partners_of.ensures.valid c.load.ensures c.partners_of.ensures.partners c.movers_of.ensures
     (record { holds = λ _ x h. c.loop-p.invariant x (omega arith); passes = λ _. refl })

@@ -7,4 +7,4 @@ use Rattle.model.specs.Tables.{bits, is_high, place_s}
 use Rattle.table_seed.proofs.fill_high.Given as goal
 
 abbrev pub invariant-loop-k : goal.invariant-loop-k
-invariant-loop-k l = (length l.table ≡ length l.initial.table) × CellsSet (is_high l.policy) place_s l.k (bits l.initial.table) (bits l.table)
+invariant-loop-k l = (length l.table ≡ 1544) × CellsSet (is_high l.policy) place_s l.k (bits l.initial.table) (bits l.table)

@@ -1,71 +1,48 @@
 -- The goals of `table_seed::fill_names`; the argument stands in Invariants.
-use Prim.Native.Nat.{◌*◌, ◌+◌, ◌<◌, ◌≤◌, ℕ}
-use lib.ListN.{length}
-use mathlib.Core.List.{List}
-use mathlib.Core.Path.{◌∙◌, ◌≡◌, ap, refl, subst, sym}
-use native.Mathlib.Omega.{arith}
-use Rattle.table_seed.specs.Seeds.{CellsSet}
-use Rattle.table_seed.specs.Laws.{cells-no, cells-none, cells-yes}
-use Rattle.model.specs.Records.{count, records}
+use Rattle.std.proofs.Common.{◌≡◌, ◌*◌, ◌+◌, ◌≤◌, ℕ, List, ◌∙◌, ap, arith, subst, sym}
+use Rattle.model.specs.Records.{count, decode, records}
+use Rattle.model.specs.Refusals.{pass}
 use Rattle.model.specs.Tables.{bits}
+use Rattle.model.specs.Validity.{validity}
 use Rattle.table_partners.specs.Facts.{bearing, name_cell}
 use Rattle.table_partners.specs.Standing.{bears, bears-not}
-use Rattle.model.proofs.Laws.Bytes.{valid-few}
+use Rattle.table_seed.specs.Laws.{cells-no, cells-none, cells-yes}
+use Rattle.table_seed.specs.Seeds.{CellsSet}
 use Rattle.table_seed.proofs.fill_names.Goals as goal
-use Rattle.table_seed.proofs.fill_names.Goals.{Then-is_ambient, then-is_ambient, else-is_ambient}
-
--- an ambient of a valid itinerary has its bit within the part
-known : (c : Then-is_ambient) →
-    (c.record_at-r.result.label < 64) × (c.record_at-r.result.name < 64) × (length c.loop-i.names ≡ 512)
-unfolding count
-known c =
-    let l = c.loop-i in let r = c.record_at-r in let k = bears c.args.it.now c.requires.valid l.i (omega arith) r.result r.ensures (sym c.is_ambient.ensures ∙ c.if-is_ambient.true) in
-    (k.label, k.name, l.invariant.0 ∙ c.requires.names_len)
-
-pub overflow_cast-i-end : goal.overflow_cast-i-end
-overflow_cast-i-end c = let h = valid-few c.args.it.now c.requires.valid in omega arith
+use Rattle.table_seed.proofs.fill_names.Goals.{then-is_ambient, else-is_ambient}
 
 pub loop-i-init : goal.loop-i-init
-loop-i-init c = (refl, cells-none (bearing (records c.args.it.now)) (name_cell (records c.args.it.now)))
+loop-i-init c = (c.told-table, cells-none (bearing (records c.args.it.now)) (λ (x : ℕ). 8192 + name_cell (records c.args.it.now) x))
 
-pub overflow_add-i : goal.overflow_add-i
-overflow_add-i c = let h = valid-few c.args.it.now c.requires.valid in omega arith
-
-pub overflow_cast-r : goal.overflow_cast-r
-overflow_cast-r c = let k = known (goal.at.overflow_cast-r c).Then-is_ambient in omega arith
-
-pub overflow_mul-r : goal.overflow_mul-r
-overflow_mul-r c = let k = known (goal.at.overflow_mul-r c).Then-is_ambient in omega arith
-
-pub overflow_cast-r-then-is_ambient : goal.overflow_cast-r-then-is_ambient
-overflow_cast-r-then-is_ambient c = let k = known (goal.at.overflow_cast-r-then-is_ambient c).Then-is_ambient in omega arith
-
-pub overflow_add-r : goal.overflow_add-r
-overflow_add-r c = let k = known (goal.at.overflow_add-r c).Then-is_ambient in omega arith
-
+-- an ambient of a valid itinerary has its bit within the table
 pub set_bit-requires : goal.set_bit-requires
-set_bit-requires c = let k = known (goal.at.set_bit-requires c).Then-is_ambient in omega arith
+set_bit-requires c =
+    let b = c.it.inside.bytes.now in
+    let l : c.loop-i.i + 1 ≤ count b = omega (arith, c.count-i-end.ensures, ap count c.it.view_is) in
+    let k = bears b c.it.invariant c.loop-i.i l c.record_at-r.result c.record_at-r.ensures (sym c.is_ambient.ensures ∙ c.if-is_ambient.true) in
+    let x = k.label in let y = k.name in omega arith
 
 pub loop-i-preserved : goal.loop-i-preserved
-unfolding count
 loop-i-preserved c =
-    let it = c.args.it.now in let l = c.loop-i in let r = c.record_at-r in let h = valid-few it c.requires.valid in
-    let e : l.i + 1 ≤ count c.args.it.now = omega arith in
-    let m = l.invariant.0 ∙ c.requires.names_len in
+    let it = c.args.it.now in let l = c.loop-i in let r = c.record_at-r.result in
+    let v = subst (λ (s : List ℕ). validity s ≡ pass) c.it.view_is c.it.invariant in
+    let h : l.i + 1 ≤ count it = omega (arith, c.count-i-end.ensures) in
+    let e = c.record_at-r.ensures ∙ ap (λ (s : List ℕ). decode s (l.i + 1)) c.it.view_is in
+    let cell = λ (x : ℕ). 8192 + name_cell (records it) x in
     elim c.if-is_ambient.branch [
-      | then-is_ambient v ↦ let k = bears it c.requires.valid l.i e r.result r.ensures (sym c.is_ambient.ensures ∙ v.if-is_ambient.true) in let x = k.label in let y = k.name in (
-        ap length v.names-is ∙ v.set_bit.auto.table ∙ l.invariant.0,
-        cells-yes (bearing (records it)) (name_cell (records it)) l.i l.names _ (64 * r.result.label + r.result.name) k.test k.cell (omega arith) (v.names-is ∙ v.set_bit.ensures) l.invariant.1,
+      | then-is_ambient w ↦ let k = bears it v l.i h r e (sym c.is_ambient.ensures ∙ w.if-is_ambient.true) in let x = k.label in let y = k.name in (
+        c.if-is_ambient.array_long,
+        cells-yes (bearing (records it)) cell l.i l.table _ (8192 + (64 * r.label + r.name)) k.test (ap (λ (x : ℕ). 8192 + x) k.cell) (omega (arith, l.invariant.0)) (w.table-is ∙ w.set_bit.ensures) l.invariant.1,
       )
-      | else-is_ambient v ↦ (
-        ap length v.names-is ∙ l.invariant.0,
-        subst (λ (y : List ℕ). CellsSet (bearing (records it)) (name_cell (records it)) (l.i + 1) (bits c.args.names.now) (bits y)) (sym v.names-is)
-            (cells-no (bearing (records it)) (name_cell (records it)) l.i (bears-not it c.requires.valid l.i e r.result r.ensures (sym c.is_ambient.ensures ∙ v.if-is_ambient.false)) l.invariant.1),
+      | else-is_ambient w ↦ (
+        c.if-is_ambient.array_long,
+        subst (λ (y : List ℕ). CellsSet (bearing (records it)) cell (l.i + 1) (bits c.args.table.now) (bits y)) (sym w.table-is)
+            (cells-no (bearing (records it)) cell l.i (bears-not it v l.i h r e (sym c.is_ambient.ensures ∙ w.if-is_ambient.false)) l.invariant.1),
       )
     ]
 
 pub returns : goal.returns
-unfolding count
 returns c =
-    let e : c.loop-i.i ≡ count c.args.it.now = omega arith in
-    subst (λ (k : ℕ). CellsSet (bearing (records c.args.it.now)) (name_cell (records c.args.it.now)) k (bits c.args.names.now) (bits c.loop-i.names)) e c.loop-i.invariant.1
+    let it = records c.args.it.now in
+    let e : c.loop-i.i ≡ count c.args.it.now = omega (arith, c.count-i-end.ensures) in
+    subst (λ (k : ℕ). CellsSet (bearing it) (λ (x : ℕ). 8192 + name_cell it x) k (bits c.args.table.now) (bits c.loop-i.table)) e c.loop-i.invariant.1

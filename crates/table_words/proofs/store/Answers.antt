@@ -1,14 +1,16 @@
 -- The goals of `table_words::store`; the argument stands in Invariants.
 use Rattle.std.proofs.Common.{◌∙◌, arith}
-use Rattle.table_words.specs.Words.{Stored, stored, stored-narrow, stored-none}
+use Rattle.table_words.specs.Words.{Stored, stored, stored-narrow, stored-none, stored_next}
 use Rattle.table_words.proofs.store.Goals as goal
 
 pub loop-i-init : goal.loop-i-init
-loop-i-init c = (c.requires, stored-none _ _)
+loop-i-init c = (c.told-table, stored-none _ _)
 
 pub loop-i-preserved : goal.loop-i-preserved
-unfolding Stored
-loop-i-preserved c = let p = c.write_word in (p.auto.table ∙ c.loop-i.invariant.0, λ j h. p.ensures j (omega arith))
+loop-i-preserved c =
+    let l = c.loop-i in
+    let s = stored_next c.args.words.now l.table c.copy_from_slice.new.self l.i _ (omega arith) (omega arith) l.invariant.1 (c.copy_from_slice.ensures.after ∙ c.to_le_bytes.ensures) in
+    (s.0 ∙ l.invariant.0, s.1)
 
 pub returns : goal.returns
 unfolding Stored

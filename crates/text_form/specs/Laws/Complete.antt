@@ -6,7 +6,7 @@ use Rattle.std.proofs.Common.{true≢false, ◌∙◌, ap, sym, arith}
 use Rattle.std.proofs.Math.Logic.{inl, inr}
 use Rattle.std.specs.Prelude.{Option, None, Some}
 use Rattle.std.proofs.Math.Decide.{dec_le, ℕ_discrete}
-use Rattle.model.specs.Finite.{one_if, lowest, tally}
+use Rattle.model.specs.Finite.{one_if, tally}
 use Rattle.model.proofs.Laws.Bytes.{valid-wf}
 use Rattle.model.proofs.Laws.Finite.{lowest-none, lowest-some}
 use Rattle.model.proofs.Laws.Forest.{Depth, depth-unique, one_if-le, mark, mark-other, root, tally-le, tally-mark, under, under_of}
@@ -19,7 +19,7 @@ use Rattle.model.specs.Validity.{validity}
 use Rattle.model.specs.declared.Rec.{Rec}
 use Rattle.text_form.specs.Laws.Identity.{next-visited, walk_end}
 use Rattle.text_form.specs.Laws.Nesting.{child-is, walk-next}
-use Rattle.text_form.specs.Writing.{child_after, child_or, is_child, next_from, or_zero, walk, walk_from}
+use Rattle.text_form.specs.Writing.{child_or, child_over, is_child, next_from, walk, walk_from}
 use Rattle.text_form.specs.declared.Visit.{Visit}
 
 -- a set of numbers, and one more
@@ -60,20 +60,19 @@ module _ (its : List Rec) (p j : ℕ) where
   not-child h k = true≢false (sym (child-is its p j k.alive k.parent) ∙ h)
 
 -- what the next child is
-data NextChild (its : List Rec) (p after c : ℕ) : Type 0 where
-  last : c ≡ 0 → ((j : ℕ) → Child its p j → j ≤ after) → NextChild its p after c
-  found : Child its p c → after < c → c ≤ length its → ((j : ℕ) → Child its p j → j < c → j ≤ after) → NextChild its p after c
+data NextChild (its : List Rec) (p after : ℕ) : Option ℕ → Type 0 where
+  last : ((j : ℕ) → Child its p j → j ≤ after) → NextChild its p after None
+  found : {c : ℕ} → Child its p c → after < c → c ≤ length its → ((j : ℕ) → Child its p j → j < c → j ≤ after) → NextChild its p after (Some c)
 
-next-child : (its : List Rec) (p after : ℕ) → NextChild its p after (child_after its p after)
-unfolding child_after or_zero
-next-child its p after = go (lowest (is_child its p) (suc after) (length its - after)) refl
+next-child : (its : List Rec) (p after : ℕ) → NextChild its p after (child_over its p after)
+next-child its p after = go (child_over its p after) refl
   where
     small : (j : ℕ) → Child its p j → (after < j → is_child its p j ≡ false) → Dec (j ≤ after) → j ≤ after
     small j k h (yes l) = l
     small j k h (no l) = absurd (not-child its p j (h (omega arith)) k)
 
-    go : (o : Option ℕ) → lowest (is_child its p) (suc after) (length its - after) ≡ o → NextChild its p after (or_zero o)
-    go None q = last refl (λ j k. small j k (λ l. lowest-none (is_child its p) (suc after) (length its - after) q j l (omega (arith, alive-in its j k.alive))) (dec_le j after))
+    go : (o : Option ℕ) → child_over its p after ≡ o → NextChild its p after o
+    go None q = last (λ j k. small j k (λ l. lowest-none (is_child its p) (suc after) (length its - after) q j l (omega (arith, alive-in its j k.alive))) (dec_le j after))
     go (Some c) q =
         let w = lowest-some (is_child its p) (suc after) (length its - after) c q in
         found (child-of its p c w.2) w.0 (omega (arith, w.0, w.1)) (λ j k l. small j k (λ h. w.3 j h l) (dec_le j after))
@@ -222,24 +221,22 @@ module _ (its : List Rec) (f : ℕ → Bool) (p after : ℕ) (least : (j : ℕ) 
       go q (inr (inr o)) = inr o
 
 -- what the next visit is, after the numbers f
-data Next (its : List Rec) (f : ℕ → Bool) (v : Visit) : Type 0 where
-  ended : v.number ≡ 0 → ((q : ℕ) → f q ≡ true → AllChildren its f q) → Next its f v
-  goes : v.number ≢ 0 → f v.number ≡ false → v.number ≤ length its → Inv its (mark v.number f) (suc v.depth) v.number 0 → Next its f v
+data Next (its : List Rec) (f : ℕ → Bool) : Option Visit → Type 0 where
+  ended : ((q : ℕ) → f q ≡ true → AllChildren its f q) → Next its f None
+  goes : {v : Visit} → v.number ≢ 0 → f v.number ≡ false → v.number ≤ length its → Inv its (mark v.number f) (suc v.depth) v.number 0 → Next its f (Some v)
 
 next : (its : List Rec) → WellFormed its → (f : ℕ → Bool) (d p after : ℕ) → Inv its f d p after → Next its f (next_from its d p after)
 unfolding next_from child_or
-next its wf f zero p after i = go (next-child its p after)
+next its wf f zero p after i = go (child_over its p after) (next-child its p after)
   where
-    go : NextChild its p after (child_after its p after) → Next its f (record { number = child_after its p after; depth = 0 })
-    go (last e h) = ended e (all_closed its f p after h i)
-    go (found k l m h) = goes (alive-pos its _ k.alive) (new its f _ p after k l h wf 0 i) m (inv-next its f _ p after k l h wf 0 i)
-next its wf f (suc d) p after i = go (child_after its p after) (next-child its p after) (next its wf f d (parent_of its p) p)
+    go : (o : Option ℕ) → NextChild its p after o → Next its f (child_or o 0 None)
+    go None (last h) = ended (all_closed its f p after h i)
+    go (Some c) (found k l m h) = goes (alive-pos its c k.alive) (new its f c p after k l h wf 0 i) m (inv-next its f c p after k l h wf 0 i)
+next its wf f (suc d) p after i = go (child_over its p after) (next-child its p after) (next its wf f d (parent_of its p) p)
   where
-    go : (c : ℕ) → NextChild its p after c → (Inv its f d (parent_of its p) p → Next its f (next_from its d (parent_of its p) p)) → Next its f (child_or c (suc d) (next_from its d (parent_of its p) p))
-    go zero (last e h) ih = ih (inv-up its f p after h d i)
-    go (suc c) (last e h) ih = absurd (omega arith)
-    go zero (found k l m h) ih = absurd (omega arith)
-    go (suc c) (found k l m h) ih = goes (omega arith) (new its f (suc c) p after k l h wf (suc d) i) m (inv-next its f (suc c) p after k l h wf (suc d) i)
+    go : (o : Option ℕ) → NextChild its p after o → (Inv its f d (parent_of its p) p → Next its f (next_from its d (parent_of its p) p)) → Next its f (child_or o (suc d) (next_from its d (parent_of its p) p))
+    go None (last h) ih = ih (inv-up its f p after h d i)
+    go (Some c) (found k l m h) ih = goes (alive-pos its c k.alive) (new its f c p after k l h wf (suc d) i) m (inv-next its f c p after k l h wf (suc d) i)
 
 -- where every number of f is closed, f has every record
 all_seen : (its : List Rec) → WellFormed its → (f : ℕ → Bool) → f 0 ≡ true → ((q : ℕ) → f q ≡ true → AllChildren its f q) → {j d : ℕ} → Depth (parent_of its) j d → (at its j).kind ≢ 0 → f j ≡ true
@@ -255,12 +252,6 @@ unfoldable pub times : ℕ → List Visit → ℕ
 times j [] = 0
 times j (v ∷ vs) = one_if (eqb v.number j) + times j vs
 
-walk_step : (its : List Rec) (n p d : ℕ) (v : Visit) → next_from its d p 0 ≡ v → v.number ≢ 0 → walk_from its (suc n) p d ≡ v ∷ walk_from its n v.number (suc v.depth)
-walk_step its n p d v e z =
-    let m : v.number ≡ suc (v.number - 1) = omega arith in
-    let q : next_from its d p 0 ≡ record { number = suc (v.number - 1); depth = v.depth } = e ∙ ap (λ k. record { number = k; depth = v.depth }) m in
-    walk-next its n p d (v.number - 1) v.depth q ∙ rw (← m)
-
 -- a visit of a new number
 times-new : (f : ℕ → Bool) (c j n : ℕ) → f c ≡ false → n ≡ one_if (not (mark c f j)) → one_if (eqb c j) + n ≡ one_if (not (f j))
 unfolding one_if
@@ -275,14 +266,12 @@ unfolding walk_from times one_if
 walk-times its wf zero f p d i t j a = rw (tally-full f (length its) (omega arith) j (alive-pos its j a) (alive-in its j a))
 walk-times its wf (suc n) f p d i t j a = go (next_from its d p 0) refl (next its wf f d p 0 i) (walk-times its wf n)
   where
-    go : (v : Visit) → next_from its d p 0 ≡ v → Next its f v →
+    go : (o : Option Visit) → next_from its d p 0 ≡ o → Next its f o →
         ((f : ℕ → Bool) (p d : ℕ) → Inv its f d p 0 → tally f (length its) + n ≡ length its → (j : ℕ) → (at its j).kind ≢ 0 → times j (walk_from its n p d) ≡ one_if (not (f j))) →
         times j (walk_from its (suc n) p d) ≡ one_if (not (f j))
-    go v e (ended z h) ih =
-        let u : walk_from its (suc n) p d ≡ [] = walk_end its n p d (ap (λ x. x.number) e ∙ z) in
-        rw (u, all_seen its wf f i.env h (wf.reach j).1 a)
-    go v e (goes z x m k) ih =
-        rw (walk_step its n p d v e z)
+    go None e (ended h) ih = rw (walk_end its n p d e, all_seen its wf f i.env h (wf.reach j).1 a)
+    go (Some v) e (goes z x m k) ih =
+        rw (walk-next its n p d v e)
         (times-new f v.number j _ x (ih (mark v.number f) v.number (suc v.depth) k (omega (arith, tally-mark f v.number (length its) z m x)) j a))
 
 -- at first, only the environment
@@ -322,13 +311,13 @@ walk-once its wf j a = walk-times its wf (length its) start 0 0 (start-inv its) 
 walk-gone : (its : List Rec) (j : ℕ) → (at its j).kind ≡ 0 → (n p d : ℕ) → times j (walk_from its n p d) ≡ 0
 unfolding walk_from times one_if
 walk-gone its j a zero p d = refl
-walk-gone its j a (suc n) p d = go (ℕ_discrete (next_from its d p 0).number 0) (walk-gone its j a n)
+walk-gone its j a (suc n) p d = go (next_from its d p 0) refl (walk-gone its j a n)
   where
-    go : Dec ((next_from its d p 0).number ≡ 0) → ((p d : ℕ) → times j (walk_from its n p d) ≡ 0) → times j (walk_from its (suc n) p d) ≡ 0
-    go (yes z) ih = rw (walk_end its n p d z)
-    go (no z) ih =
-        let x : (next_from its d p 0).number ≢ j = λ e. (next-visited its d p 0).alive z (ap (λ i. (at its i).kind) e ∙ a) in
-        rw (walk_step its n p d _ refl z) (rw (ne_eqb (next_from its d p 0).number j x, ih (next_from its d p 0).number (suc (next_from its d p 0).depth)))
+    go : (o : Option Visit) → next_from its d p 0 ≡ o → ((p d : ℕ) → times j (walk_from its n p d) ≡ 0) → times j (walk_from its (suc n) p d) ≡ 0
+    go None e ih = rw (walk_end its n p d e)
+    go (Some v) e ih =
+        let x : v.number ≢ j = λ q. (next-visited its d p 0 v e).alive (ap (λ i. (at its i).kind) q ∙ a) in
+        rw (walk-next its n p d v e) (rw (ne_eqb v.number j x, ih v.number (suc v.depth)))
 
 pub walk-none-gone : (its : List Rec) (j : ℕ) → (at its j).kind ≡ 0 → times j (walk its) ≡ 0
 unfolding walk

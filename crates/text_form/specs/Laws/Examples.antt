@@ -4,14 +4,15 @@ use Rattle.std.specs.Prelude.{Err, Some}
 use Rattle.model.specs.Climbing.{hides, is_suspect, view, view_from}
 use Rattle.model.specs.Finite.{lowest}
 use Rattle.model.specs.Listing.{digits_in, field}
-use Rattle.model.specs.Records.{at, encode, is_ambient}
+use Rattle.model.specs.Records.{at, capability, encode, is_ambient}
+use Rattle.model.specs.Scripts.{kind_of}
 use Rattle.model.specs.Refusals.{refuse}
 use Rattle.model.specs.Validity.{label_in, validity}
 use Rattle.model.specs.declared.Rec.{Rec}
 use Rattle.text_form.specs.Laws.Converted.{fault-refused}
-use Rattle.text_form.specs.Lines.{ambient_word, entry, hidden_word, in_word, indent, kind_word, line_bytes, open_word, out_word, render}
-use Rattle.text_form.specs.Reading.{before, bytes_of, cause_at, converted, demand, digit, ended, labelled, leading, length_told, line_read, lines_answer, mark_bytes, named, none_above, number_alone, number_read, numeral, numeral_of, placed, placed_from, read_answer, read_by, record_of, room_in, scan, scan_answer, scan_from, starts, unworded, visible, with_number, worded}
-use Rattle.text_form.specs.Writing.{child_after, child_or, is_child, line_at, lines_of, list_line, list_of, mark, next_from, no_text, or_zero, text_of, walk, walk_from}
+use Rattle.text_form.specs.Lines.{ambient_word, entry, hidden_word, in_word, indent, kind_byte, kind_word, line_bytes, open_word, out_word, render}
+use Rattle.text_form.specs.Reading.{before, bytes_of, cause_at, converted, demand, digit, ended, kinds, labelled, leading, length_told, line_read, lines_answer, mark_bytes, named, none_above, number_alone, number_read, numeral, numeral_of, placed, placed_from, read_answer, read_by, record_of, room_in, scan, scan_answer, scan_from, starts, unworded, visible, with_number, worded, worded_by}
+use Rattle.text_form.specs.Writing.{child_or, is_child, line_at, lines_of, list_line, list_of, mark, next_from, no_text, text_of, walk, walk_from}
 use Rattle.text_form.specs.declared.Cause.TheVariants as cause
 
 -- records (1,1,0,parent 0), (1,2,1,parent 1), (3,64,0,parent 2)
@@ -39,11 +40,11 @@ listing_b =
     ∷ []
 
 pub writes-b : text_of example_b ≡ text_b
-unfolding text_of example_b text_b render line_bytes entry indent kind_word ambient_word in_word out_word open_word field digits_in line_at walk walk_from next_from child_or child_after or_zero is_child lowest at
+unfolding text_of example_b text_b render line_bytes entry indent kind_word ambient_word in_word out_word open_word field digits_in line_at capability walk walk_from next_from child_or is_child lowest at
 writes-b = refl
 
 pub reads-b : bytes_of text_b ≡ encode example_b
-unfolding bytes_of example_b text_b scan scan_from before line_read worded labelled named ended demand numeral numeral_of digit starts leading cause_at number_read number_alone with_number ambient_word in_word out_word open_word label_in placed placed_from record_of none_above encode
+unfolding bytes_of example_b text_b scan scan_from before line_read worded worded_by kinds kind_word labelled named ended demand numeral numeral_of digit starts leading cause_at number_read number_alone with_number ambient_word in_word out_word open_word label_in placed placed_from record_of kind_byte kind_of none_above encode
 reads-b = refl
 
 -- "ambient 1 0", with a carriage return before the end of the line
@@ -51,17 +52,17 @@ unfoldable pub text_return : List ℕ
 text_return = 97 ∷ 109 ∷ 98 ∷ 105 ∷ 101 ∷ 110 ∷ 116 ∷ 32 ∷ 49 ∷ 32 ∷ 48 ∷ 13 ∷ 10 ∷ []
 
 pub faults-return : read_answer text_return (replicate 8 0) ≡ Err (record { line = 1; cause = cause.CarriageReturn })
-unfolding text_return read_answer lines_answer length_told scan_answer read_by room_in scan scan_from line_read worded labelled named ended demand numeral numeral_of digit starts leading cause_at number_read number_alone with_number ambient_word label_in
+unfolding text_return read_answer lines_answer length_told scan_answer read_by room_in scan scan_from line_read worded worded_by kinds kind_word labelled named ended demand numeral numeral_of digit starts leading cause_at number_read number_alone with_number ambient_word label_in
 faults-return = refl
 
 -- where label 2 alone is suspect
 pub lists-b : list_of example_b (λ k. eqb k 2) ≡ listing_b
-unfolding list_of example_b listing_b lines_of list_line mark hidden_word entry indent kind_word ambient_word in_word out_word open_word field digits_in line_at walk walk_from next_from child_or child_after or_zero is_child lowest at view view_from hides is_suspect is_ambient
+unfolding list_of example_b listing_b lines_of list_line mark hidden_word entry indent kind_word ambient_word in_word out_word open_word field digits_in line_at capability walk walk_from next_from child_or is_child lowest at view view_from hides is_suspect is_ambient
 lists-b = refl
 
 -- what hubshow writes where it has no text is none: hubtext refuses it, and writes what every call on an itinerary refuses
 no-text-fault : (room : ℕ) → (scan (suc room) no_text).fault ≡ Some cause.UnknownKind
-unfolding no_text scan scan_from line_read worded unworded visible demand starts leading cause_at mark_bytes ambient_word in_word out_word open_word
+unfolding no_text scan scan_from line_read worded worded_by kinds kind_word unworded visible demand starts leading cause_at mark_bytes ambient_word in_word out_word open_word
 no-text-fault room = refl
 
 pub no-text-refused : validity (converted true no_text) ≡ refuse 1 0

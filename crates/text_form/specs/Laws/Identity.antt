@@ -8,7 +8,6 @@ use Rattle.std.proofs.Math.Seq.{set_out}
 use Rattle.std.specs.Prelude.{Option, None, Some, Ok}
 use Rattle.std.proofs.Math.Path.{ap, refl}
 use Rattle.std.proofs.Math.Decide.{dec_lt, ℕ_discrete}
-use Rattle.model.specs.Finite.{lowest}
 use Rattle.model.proofs.Laws.Bytes.{count-encode, length-records, records-encode, shape-kind, valid-few, valid-wf, wf-valid}
 use Rattle.model.proofs.Laws.Finite.{lowest-some}
 use Rattle.model.proofs.Laws.Forest.{Depth, root, under_of}
@@ -21,40 +20,36 @@ use Rattle.model.specs.Refusals.{content, pass}
 use Rattle.model.specs.declared.Rec.{Rec}
 use Rattle.text_put.specs.Puts.{over}
 use Rattle.text_form.specs.Laws.Lines.{scan-nested, scan-render}
-use Rattle.text_form.specs.Laws.Nesting.{Nested, Right, cons, length-placed, nil, none-zero, walk-next, walk-placed}
-use Rattle.text_form.specs.Lines.{render}
+use Rattle.text_form.specs.Laws.Nesting.{Nested, Right, byte-ambient, byte-high, byte-low, cons, kind-ambient, length-placed, nil, none-zero, walk-next, walk-placed}
+use Rattle.text_form.specs.Lines.{kind_byte, render}
 use Rattle.text_form.specs.Reading.{bytes_of, length_told, lines_answer, none_above, placed, placed_from, read_after, read_answer, read_by, read_into, record_of, room_in, scan, scan_answer}
-use Rattle.text_form.specs.Writing.{Length, child_after, child_or, fits, is_child, line_at, next_from, or_zero, over_if, text_of, told, told_after, walk, walk_from, write_after, write_answer}
+use Rattle.text_form.specs.Writing.{Length, child_or, child_over, fits, is_child, line_at, next_from, over_if, text_of, told, told_after, walk, walk_from, write_after, write_answer}
 use Rattle.text_form.specs.declared.Line.{Line}
 use Rattle.text_form.specs.declared.Visit.{Visit}
 
 -- a record that is visited is none that is gone, and stands no deeper than d
 pub record Visited (its : List Rec) (d : ℕ) (v : Visit) : Type 0 where
   pub deep : v.depth ≤ d
-  pub alive : v.number ≢ 0 → (at its v.number).kind ≢ 0
+  pub alive : (at its v.number).kind ≢ 0
 
-child-alive : (its : List Rec) (p after j : ℕ) → child_after its p after ≡ j → j ≢ 0 → (at its j).kind ≢ 0
-unfolding child_after or_zero is_child
-child-alive its p after j e z = go (lowest (is_child its p) (suc after) (length its - after)) refl
-  where
-    go : (o : Option ℕ) → lowest (is_child its p) (suc after) (length its - after) ≡ o → (at its j).kind ≢ 0
-    go None q = absurd (z (sym e ∙ ap or_zero q))
-    go (Some k) q =
-        let u : k ≡ j = sym (ap or_zero q) ∙ e in
-        rw (← u) (eqb-false _ _ (not-true _ (and_left _ _ (lowest-some (is_child its p) (suc after) (length its - after) k q).2)))
+child-alive : (its : List Rec) (p after j : ℕ) → child_over its p after ≡ Some j → (at its j).kind ≢ 0
+unfolding is_child
+child-alive its p after j e = eqb-false _ _ (not-true _ (and_left _ _ (lowest-some (is_child its p) (suc after) (length its - after) j e).2))
 
-or-visited : (its : List Rec) (d j : ℕ) (v : Visit) → (j ≢ 0 → (at its j).kind ≢ 0) → Visited its d v → Visited its (suc d) (child_or j (suc d) v)
+or-visited : (its : List Rec) (d : ℕ) (o : Option ℕ) (up : Option Visit) → ((j : ℕ) → o ≡ Some j → (at its j).kind ≢ 0) → ((v : Visit) → up ≡ Some v → Visited its d v) →
+    (v : Visit) → child_or o d up ≡ Some v → Visited its d v
 unfolding child_or
-or-visited its d zero v a w = record { deep = omega (arith, w.deep); alive = w.alive }
-or-visited its d (suc j) v a w = record { deep = omega arith; alive = a }
+or-visited its d None up a w v e = w v e
+or-visited its d (Some j) up a w v e = let u : record { number = j; depth = d } ≡ v = cc in rw (← u) (record { deep = omega arith; alive = a j refl })
 
-pub next-visited : (its : List Rec) (d p after : ℕ) → Visited its d (next_from its d p after)
+pub next-visited : (its : List Rec) (d p after : ℕ) (v : Visit) → next_from its d p after ≡ Some v → Visited its d v
 unfolding next_from
-next-visited its zero p after = record { deep = omega arith; alive = child-alive its p after _ refl }
-next-visited its (suc d) p after = or-visited its d (child_after its p after) _ (child-alive its p after _ refl) (next-visited its d (parent_of its p) p)
+next-visited its zero p after v e = or-visited its 0 _ None (child-alive its p after) (λ x q. let k : ◌≡◌ {A = ℕ} 0 1 = cc in absurd (omega arith)) v e
+next-visited its (suc d) p after v e =
+    or-visited its (suc d) _ (next_from its d (parent_of its p) p) (child-alive its p after) (λ x q. let w = next-visited its d (parent_of its p) p x q in record { deep = omega (arith, w.deep); alive = w.alive }) v e
 
 -- the end of a walk
-pub walk_end : (its : List Rec) (n p d : ℕ) → (next_from its d p 0).number ≡ 0 → walk_from its (suc n) p d ≡ []
+pub walk_end : (its : List Rec) (n p d : ℕ) → next_from its d p 0 ≡ None → walk_from its (suc n) p d ≡ []
 unfolding walk_from
 walk_end its n p d e = rw (e, walk_from)
 
@@ -65,9 +60,7 @@ line-right its wf v z =
     let r = at its v.number in
     let k : r.kind ≤ 4 = leb-true _ _ (shape-kind r (wf.shaped v.number)) in
     record {
-      kind-low = omega arith;
-      kind-high = k;
-      label = shape-label r (wf.shaped v.number) (rw (le-leb 1 r.kind (omega arith), le-leb r.kind 4 k));
+      label = rw (kind-ambient r.kind z k) (shape-label r (wf.shaped v.number) (rw (le-leb 1 r.kind (omega arith), le-leb r.kind 4 k)));
       name = omega (arith, named wf v.number);
     }
 
@@ -79,18 +72,15 @@ line-nested its d v ls h r n = cons h r n
 walk-nested : (its : List Rec) → WellFormed its → (n p d : ℕ) → Nested d (map (line_at its) (walk_from its n p d)) × (length (walk_from its n p d) ≤ n)
 unfolding walk_from
 walk-nested its wf zero p d = (nil, omega arith)
-walk-nested its wf (suc n) p d = go (next_from its d p 0).number refl (walk-nested its wf n)
+walk-nested its wf (suc n) p d = go (next_from its d p 0) refl (walk-nested its wf n)
   where
-    go : (j : ℕ) → (next_from its d p 0).number ≡ j → ((p d : ℕ) → Nested d (map (line_at its) (walk_from its n p d)) × (length (walk_from its n p d) ≤ n)) →
+    go : (o : Option Visit) → next_from its d p 0 ≡ o → ((p d : ℕ) → Nested d (map (line_at its) (walk_from its n p d)) × (length (walk_from its n p d) ≤ n)) →
         Nested d (map (line_at its) (walk_from its (suc n) p d)) × (length (walk_from its (suc n) p d) ≤ suc n)
-    go zero e ih = rw (walk_end its n p d e) (nil, omega arith)
-    go (suc j) e ih =
-        let w = next-visited its d p 0 in
-        let q : next_from its d p 0 ≡ record { number = suc j; depth = (next_from its d p 0).depth } = rw (← e) in
-        let h = ih (suc j) (suc (next_from its d p 0).depth) in
-        let a : (at its (suc j)).kind ≢ 0 = rw e at (w.alive (λ z. omega (arith, e, z))) in
-        rw (walk-next its n p d j _ q)
-        (line-nested its d (record { number = suc j; depth = (next_from its d p 0).depth }) _ w.deep (line-right its wf _ a) h.0, omega (arith, h.1))
+    go None e ih = rw (walk_end its n p d e) (nil, omega arith)
+    go (Some v) e ih =
+        let w = next-visited its d p 0 v e in
+        let h = ih v.number (suc v.depth) in
+        rw (walk-next its n p d v e) (line-nested its d v _ w.deep (line-right its wf v w.alive) h.0, omega (arith, h.1))
 
 -- the parent of a line that is placed stands before it
 placed-lower : (k : ℕ) (above : List ℕ) (ls : List Line) → ((e : ℕ) → get_or above e 0 < k) → (i : ℕ) → i < length ls → (get_or (placed_from k above ls) i gone).parent < k + i
@@ -111,14 +101,15 @@ placed-lower k above (x ∷ ls) h (suc i) l = omega (arith, placed-lower (suc k)
 record-shape : (l : Line) (p : ℕ) → Right l → shape (record_of l p) ≡ true
 unfolding record_of kind_right label_right label_by name_right name_by nested is_ambient
 record-shape l p r =
-    let a : leb 1 l.kind ≡ true = le-leb 1 l.kind r.kind-low in
-    let b : leb l.kind 4 ≡ true = le-leb l.kind 4 r.kind-high in
-    shape-make _ b (rw (a, b) r.label) (rw (a, b) (le-leb l.name 63 r.name))
+    let k = kind_byte l.capability in
+    let a : leb 1 k ≡ true = le-leb 1 k (byte-low l.capability) in
+    let b : leb k 4 ≡ true = le-leb k 4 (byte-high l.capability) in
+    shape-make _ b (rw (a, b, byte-ambient l.capability) r.label) (rw (a, b) (le-leb l.name 63 r.name))
 
 placed-shape : (k d : ℕ) (above : List ℕ) (ls : List Line) → Nested d ls → (i : ℕ) → i < length ls → (shape (get_or (placed_from k above ls) i gone) ≡ true) × ((get_or (placed_from k above ls) i gone).kind ≢ 0)
 unfolding placed_from record_of
 placed-shape k d above [] n i l = absurd (omega arith)
-placed-shape k d above (x ∷ ls) (cons deep r n) zero l = (record-shape x _ r, omega (arith, r.kind-low))
+placed-shape k d above (x ∷ ls) (cons deep r n) zero l = (record-shape x _ r, omega (arith, byte-low x.capability))
 placed-shape k d above (x ∷ ls) (cons deep r n) (suc i) l = placed-shape (suc k) (suc x.depth) (set above (suc x.depth) k) ls n i (omega arith)
 
 module _ (ls : List Line) (n : Nested 0 ls) where

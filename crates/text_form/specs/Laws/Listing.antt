@@ -1,6 +1,6 @@
 -- The listing: the sheet tells what is hidden.
 use Rattle.std.specs.Prelude.{◌%◌, ◌<◌, suc, zero, ℕ, eqb, length, Bool, false, true, List, ◌++◌, ◌≢◌, ◌≡◌, refl}
-use Rattle.std.specs.Prelude.{Result, Ok, Err}
+use Rattle.std.specs.Prelude.{Option, None, Some, Result, Ok, Err}
 use Rattle.std.proofs.Common.{eq-eqb, ne_eqb, ◌∙◌, ap₂, arith}
 use Rattle.std.proofs.lemmas.Bool.{lt-leb}
 use Rattle.std.proofs.Math.Bool.{and-false}
@@ -30,15 +30,11 @@ use Rattle.text_form.specs.declared.Visit.{Visit}
 lines_same : (f g : Visit → List ℕ) (its : List Rec) → ((v : Visit) → (at its v.number).kind ≢ 0 → f v ≡ g v) → (n p d : ℕ) → lines_of f (walk_from its n p d) ≡ lines_of g (walk_from its n p d)
 unfolding walk_from lines_of
 lines_same f g its h zero p d = refl
-lines_same f g its h (suc n) p d = go (next_from its d p 0).number refl (lines_same f g its h n)
+lines_same f g its h (suc n) p d = go (next_from its d p 0) refl (lines_same f g its h n)
   where
-    go : (j : ℕ) → (next_from its d p 0).number ≡ j → ((p d : ℕ) → lines_of f (walk_from its n p d) ≡ lines_of g (walk_from its n p d)) → lines_of f (walk_from its (suc n) p d) ≡ lines_of g (walk_from its (suc n) p d)
-    go zero e ih = rw (walk_end its n p d e)
-    go (suc j) e ih =
-        let w = next-visited its d p 0 in
-        let q : next_from its d p 0 ≡ record { number = suc j; depth = (next_from its d p 0).depth } = rw (← e) in
-        let a : (at its (suc j)).kind ≢ 0 = rw e at (w.alive (λ z. omega (arith, e, z))) in
-        rw (walk-next its n p d j _ q) (ap₂ (λ x y. x ++ y) (h _ a) (ih (suc j) (suc (next_from its d p 0).depth)))
+    go : (o : Option Visit) → next_from its d p 0 ≡ o → ((p d : ℕ) → lines_of f (walk_from its n p d) ≡ lines_of g (walk_from its n p d)) → lines_of f (walk_from its (suc n) p d) ≡ lines_of g (walk_from its (suc n) p d)
+    go None e ih = rw (walk_end its n p d e)
+    go (Some v) e ih = rw (walk-next its n p d v e) (ap₂ (λ x y. x ++ y) (h v (next-visited its d p 0 v e).alive) (ih v.number (suc v.depth)))
 
 -- gone on the sheet, and not gone itself: hidden
 hidden-is : (its : List Rec) (S : ℕ → Bool) (j : ℕ) → (at its j).kind ≢ 0 → eqb (at (sheet its S) j).kind 0 ≡ hidden its S j

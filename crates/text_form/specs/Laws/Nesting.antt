@@ -1,7 +1,8 @@
 -- Lines that are placed and walked again are the same lines.
 use Prim.Native.Nat.{◌+◌, ◌-◌, ◌<◌, ◌≤◌, suc, zero, ℕ}
 use Rattle.std.proofs.Common.{eq-eqb, ne_eqb, inl, inr, ◌∙◌}
-use Rattle.std.specs.Prelude.{eqb, get_or, set, false, not, true, List, [], ◌∷◌, map, ◌≢◌, ◌⊎◌, ◌≡◌, refl}
+use Rattle.std.specs.Prelude.{eqb, get_or, is_none, set, false, not, true, List, [], ◌∷◌, map, ◌≢◌, ◌⊎◌, ◌≡◌, refl}
+use Rattle.std.specs.Prelude.{Option, None, Some}
 use Rattle.std.proofs.Math.ListN.{length, length-set}
 use Rattle.std.proofs.lemmas.List.{length-replicate}
 use Rattle.std.proofs.Math.Seq.{get_or-set_other, get_or-set_same}
@@ -11,18 +12,60 @@ use Rattle.std.proofs.Math.Decide.{dec_le, ℕ_discrete}
 use native.Mathlib.Omega.{arith}
 use Rattle.model.proofs.Laws.Finite.{replicated}
 use Rattle.model.proofs.Laws.Finite.{lowest-make, lowest-nothing}
-use Rattle.model.specs.Records.{at, gone, parent_of}
+use Rattle.model.specs.Records.{at, capability, gone, parent_of}
+use Rattle.model.specs.declared.Capability.{Capability}
+use Rattle.model.specs.declared.Capability.TheVariants.{In as cap-in, Open as cap-open, Out as cap-out}
+use Rattle.model.specs.Scripts.{kind_of}
 use Rattle.model.specs.Validity.{label_in}
 use Rattle.model.specs.declared.Rec.{Rec}
+use Rattle.text_form.specs.Lines.{kind_byte}
 use Rattle.text_form.specs.Reading.{none_above, placed, placed_from, record_of}
-use Rattle.text_form.specs.Writing.{child_after, child_or, is_child, line_at, next_from, or_zero, walk, walk_from}
+use Rattle.text_form.specs.Writing.{child_or, child_over, is_child, line_at, next_from, walk, walk_from}
 use Rattle.text_form.specs.declared.Line.{Line}
+use Rattle.text_form.specs.declared.Visit.{Visit}
+
+-- the number of a kind is 1 to 4, that of an ambient alone is 1, and it gives the kind back
+pub byte-low : (k : Option Capability) → 1 ≤ kind_byte k
+unfolding kind_byte kind_of
+byte-low None = omega arith
+byte-low (Some cap-in) = omega arith
+byte-low (Some cap-out) = omega arith
+byte-low (Some cap-open) = omega arith
+
+pub byte-high : (k : Option Capability) → kind_byte k ≤ 4
+unfolding kind_byte kind_of
+byte-high None = omega arith
+byte-high (Some cap-in) = omega arith
+byte-high (Some cap-out) = omega arith
+byte-high (Some cap-open) = omega arith
+
+pub byte-ambient : (k : Option Capability) → eqb (kind_byte k) 1 ≡ is_none k
+unfolding kind_byte kind_of
+byte-ambient None = refl
+byte-ambient (Some cap-in) = refl
+byte-ambient (Some cap-out) = refl
+byte-ambient (Some cap-open) = refl
+
+byte-back : (k : Option Capability) → capability (kind_byte k) ≡ k
+unfolding kind_byte kind_of capability
+byte-back None = refl
+byte-back (Some cap-in) = refl
+byte-back (Some cap-out) = refl
+byte-back (Some cap-open) = refl
+
+-- the other way round: an ambient among the records that aren't gone
+pub kind-ambient : (n : ℕ) → n ≢ 0 → n ≤ 4 → is_none (capability n) ≡ eqb n 1
+unfolding capability
+kind-ambient zero z h = absurd (z refl)
+kind-ambient (suc zero) z h = refl
+kind-ambient (suc (suc zero)) z h = refl
+kind-ambient (suc (suc (suc zero))) z h = refl
+kind-ambient (suc (suc (suc (suc zero)))) z h = refl
+kind-ambient (suc (suc (suc (suc (suc n))))) z h = absurd (omega arith)
 
 -- a line whose kind, label and name fit together
 pub record Right (l : Line) : Type 0 where
-  pub kind-low : 1 ≤ l.kind
-  pub kind-high : l.kind ≤ 4
-  pub label : label_in (eqb l.kind 1) l.label ≡ true
+  pub label : label_in (is_none l.capability) l.label ≡ true
   pub name : l.name ≤ 63
 
 -- each line is indented by at most one step more than the one before, and the first by at most d
@@ -94,14 +137,12 @@ unfolding is_child
 child-not its p j e = rw (ne_eqb _ _ e) (and-false (not (eqb (at its j).kind 0)))
 
 -- the next child is number k
-child-found : (its : List Rec) (p after k : ℕ) → after < k → k ≤ length its → is_child its p k ≡ true → ((j : ℕ) → after < j → j < k → is_child its p j ≡ false) → child_after its p after ≡ k
-unfolding child_after or_zero
-child-found its p after k l h t f = rw (lowest-make (is_child its p) (suc after) (length its - after) k l (omega arith) t f)
+child-found : (its : List Rec) (p after k : ℕ) → after < k → k ≤ length its → is_child its p k ≡ true → ((j : ℕ) → after < j → j < k → is_child its p j ≡ false) → child_over its p after ≡ Some k
+child-found its p after k l h t f = lowest-make (is_child its p) (suc after) (length its - after) k l (omega arith) t f
 
 -- there is no further child
-child-none : (its : List Rec) (p after : ℕ) → ((j : ℕ) → after < j → j ≤ length its → is_child its p j ≡ false) → child_after its p after ≡ 0
-unfolding child_after or_zero
-child-none its p after f = rw (lowest-nothing (is_child its p) (suc after) (length its - after) (λ j l h. f j l (omega arith)))
+child-none : (its : List Rec) (p after : ℕ) → ((j : ℕ) → after < j → j ≤ length its → is_child its p j ≡ false) → child_over its p after ≡ None
+child-none its p after f = lowest-nothing (is_child its p) (suc after) (length its - after) (λ j l h. f j l (omega arith))
 
 -- the line l is next
 module _ {its : List Rec} {m d : ℕ} {above : List ℕ} (w : Stage its m d above) (l : Line) (ls : List Line) (deep : l.depth ≤ d) (r : Right l)
@@ -117,7 +158,7 @@ module _ {its : List Rec} {m d : ℕ} {above : List ℕ} (w : Stage its m d abov
 
   here-kind : (at its (suc m)).kind ≢ 0
   unfolding record_of
-  here-kind e = let u : l.kind ≡ 0 = sym (ap (λ x. x.kind) here) ∙ e in omega (arith, r.kind-low)
+  here-kind e = omega (arith, ap (λ x. x.kind) here, e, byte-low l.capability)
 
   -- no record from the next on has a parent at a depth above the line's
   later : (e : ℕ) → l.depth < e → e ≤ d → (j : ℕ) → m < j → j ≤ length its → parent_of its j ≢ ab above e
@@ -132,15 +173,15 @@ module _ {its : List Rec} {m d : ℕ} {above : List ℕ} (w : Stage its m d abov
       go (inr a) = omega (arith, p ∙ a.2, u, rises w a.0 e (omega (arith, a.1)) y)
 
   finds : (e after : ℕ) → l.depth ≤ e → e ≤ d → after ≤ m → ((j : ℕ) → after < j → j ≤ m → parent_of its j ≢ ab above e) →
-      next_from its e (ab above e) after ≡ record { number = suc m; depth = l.depth }
+      next_from its e (ab above e) after ≡ Some (record { number = suc m; depth = l.depth })
   unfolding next_from child_or
   finds zero after x y z clear =
       let u : l.depth ≡ 0 = omega arith in
-      rw u (ap (λ k. record { number = k; depth = 0 }) (child-found its (ab above 0) after (suc m) (omega arith) (omega arith) (child-is its _ (suc m) here-kind (rw u at here-parent)) (λ j a b. child-not its _ j (clear j a (omega arith)))))
+      rw u (ap (λ o. child_or o 0 None) (child-found its (ab above 0) after (suc m) (omega arith) (omega arith) (child-is its _ (suc m) here-kind (rw u at here-parent)) (λ j a b. child-not its _ j (clear j a (omega arith)))))
   finds (suc e) after x y z clear = go (ℕ_discrete l.depth (suc e)) (finds e (ab above (suc e)))
     where
-      go : Dec (l.depth ≡ suc e) → (l.depth ≤ e → e ≤ d → ab above (suc e) ≤ m → ((j : ℕ) → ab above (suc e) < j → j ≤ m → parent_of its j ≢ ab above e) → next_from its e (ab above e) (ab above (suc e)) ≡ record { number = suc m; depth = l.depth }) →
-          child_or (child_after its (ab above (suc e)) after) (suc e) (next_from its e (parent_of its (ab above (suc e))) (ab above (suc e))) ≡ record { number = suc m; depth = l.depth }
+      go : Dec (l.depth ≡ suc e) → (l.depth ≤ e → e ≤ d → ab above (suc e) ≤ m → ((j : ℕ) → ab above (suc e) < j → j ≤ m → parent_of its j ≢ ab above e) → next_from its e (ab above e) (ab above (suc e)) ≡ Some (record { number = suc m; depth = l.depth })) →
+          child_or (child_over its (ab above (suc e)) after) (suc e) (next_from its e (parent_of its (ab above (suc e))) (ab above (suc e))) ≡ Some (record { number = suc m; depth = l.depth })
       go (yes u) ih = rw (child-found its (ab above (suc e)) after (suc m) (omega arith) (omega arith) (child-is its _ (suc m) here-kind (rw u at here-parent)) (λ j a b. child-not its _ j (clear j a (omega arith)))) (rw u)
       go (no u) ih =
           rw (child-none its (ab above (suc e)) after (λ j a b. child-not its _ j (none j a b (dec_le j m))))
@@ -150,7 +191,7 @@ module _ {its : List Rec} {m d : ℕ} {above : List ℕ} (w : Stage its m d abov
           none j a b (yes v) = clear j a v
           none j a b (no v) = later (suc e) (omega arith) y j (omega arith) b
 
-  next-line : next_from its d m 0 ≡ record { number = suc m; depth = l.depth }
+  next-line : next_from its d m 0 ≡ Some (record { number = suc m; depth = l.depth })
   next-line = rw w.last at (finds d 0 deep (omega arith) (omega arith) (λ j a b u. omega (arith, w.lower j a b, w.last, u)))
 
   -- above, once the line is placed
@@ -202,12 +243,12 @@ module _ {its : List Rec} {m d : ℕ} {above : List ℕ} (w : Stage its m d abov
 
   here-line : line_at its (record { number = suc m; depth = l.depth }) ≡ l
   unfolding line_at record_of
-  here-line = rw here
+  here-line = rw here (rw (byte-back l.capability))
 
--- a visit, and no visit
-pub walk-next : (its : List Rec) (n p d j e : ℕ) → next_from its d p 0 ≡ record { number = suc j; depth = e } → walk_from its (suc n) p d ≡ record { number = suc j; depth = e } ∷ walk_from its n (suc j) (suc e)
+-- how a walk goes on after a visit
+pub walk-next : (its : List Rec) (n p d : ℕ) (v : Visit) → next_from its d p 0 ≡ Some v → walk_from its (suc n) p d ≡ v ∷ walk_from its n v.number (suc v.depth)
 unfolding walk_from
-walk-next its n p d j e q = rw (q, walk_from) (rw q)
+walk-next its n p d v q = rw (q, walk_from)
 
 -- lines that are being walked are the lines that are left
 walk-rest : {its : List Rec} {m d : ℕ} {above : List ℕ} → Stage its m d above → (ls : List Line) → Nested d ls → d + length ls < length above → length its ≡ m + length ls →
@@ -215,7 +256,7 @@ walk-rest : {its : List Rec} {m d : ℕ} {above : List ℕ} → Stage its m d ab
 unfolding walk_from
 walk-rest w [] n room all tail = refl
 walk-rest {its} {m} {d} {above} w (l ∷ ls) (cons deep r n) room all tail =
-    rw (walk-next its (length ls) m d m l.depth (next-line w l ls deep r n room all tail))
+    rw (walk-next its (length ls) m d (record { number = suc m; depth = l.depth }) (next-line w l ls deep r n room all tail))
     (rw (here-line w l ls deep r n room all tail)
     (ap (λ x. l ∷ x) (walk-rest {m = suc m} {d = suc l.depth} {above = over-line w l ls deep r n room all tail} (next-stage w l ls deep r n room all tail) ls n (next-room w l ls deep r n room all tail) (omega arith) (next-tail w l ls deep r n room all tail))))
 

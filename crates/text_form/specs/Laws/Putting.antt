@@ -3,8 +3,8 @@ use Rattle.std.specs.Prelude.{◌*◌, ◌+◌, ◌≤◌, ℕ, length, replicat
 use Rattle.std.proofs.Common.{length-append, append_assoc, ◌∙◌, ap, sym, arith}
 use Rattle.std.proofs.lemmas.List.{length-replicate}
 use Rattle.model.specs.Listing.{digits_in, field}
-use Rattle.text_put.specs.Puts.{Put}
-use Rattle.text_put.specs.Laws.{put_as, put_then}
+use Rattle.text_put.specs.Puts.{Put, field_by}
+use Rattle.text_put.specs.Laws.{by-length, put_as, put_then}
 use Rattle.text_form.specs.Lines.{entry, hidden_word, indent, kind_word}
 use Rattle.text_form.specs.Parts.{fields, front}
 use Rattle.text_form.specs.Writing.{mark}
@@ -18,16 +18,16 @@ pub mark-not : (b : Bool) → b ≡ false → mark b ≡ []
 unfolding mark
 mark-not b e = rw e
 
-pub front-is : (b : Bool) (n : ℕ) → b ≡ true → front b n ≡ digits_in 5 n ++ (32 ∷ [])
-unfolding front field
+pub front-is : (b : Bool) (n : ℕ) → b ≡ true → front b n ≡ field_by n 32
+unfolding front field field_by
 front-is b n e = rw e
 
 pub front-not : (b : Bool) (n : ℕ) → b ≡ false → front b n ≡ []
 unfolding front
 front-not b n e = rw e
 
-pub fields-are : (l : Line) → ((kind_word l.kind ++ digits_in 5 l.label) ++ (32 ∷ [])) ++ digits_in 5 l.name ≡ fields l
-unfolding fields field
+pub fields-are : (l : Line) → (kind_word l.capability ++ field_by l.label 32) ++ digits_in 5 l.name ≡ fields l
+unfolding fields field field_by
 fields-are l = simp append_assoc
 
 pub entry-is : (f b : List ℕ) (l : Line) → (((replicate (2 * l.depth) 32 ++ f) ++ fields l) ++ b) ++ (10 ∷ []) ≡ entry f b l
@@ -35,10 +35,7 @@ unfolding entry indent fields field
 entry-is f b l = simp append_assoc
 
 -- the lengths of the parts of a line
-pub front_length : (b : Bool) (n : ℕ) → b ≡ true → length (front b n) ≡ length (digits_in 5 n) + 1
-front_length b n e = ap length (front-is b n e) ∙ length-append (digits_in 5 n) (32 ∷ [])
-
-pub fields-length : (l : Line) → length (fields l) ≡ length (kind_word l.kind) + (length (digits_in 5 l.label) + (1 + length (digits_in 5 l.name)))
+pub fields-length : (l : Line) → length (fields l) ≡ length (kind_word l.capability) + (length (digits_in 5 l.label) + (1 + length (digits_in 5 l.name)))
 unfolding fields field
 fields-length l = simp length-append (omega arith)
 
@@ -46,11 +43,11 @@ pub entry_length : (f b : List ℕ) (l : Line) → length (entry f b l) ≡ 2 * 
 entry_length f b l = ap length (sym (entry-is f b l)) ∙ simp (length-append, length-replicate) (omega arith)
 
 -- the parts of a line, put one after the other
-pub fields-put : (l : Line) {t t₁ t₂ t₃ t₄ : List ℕ} {p e₁ e₂ e₃ e₄ : ℕ} → p + length (fields l) ≤ length t →
-    Put t p (kind_word l.kind) t₁ e₁ → Put t₁ e₁ (digits_in 5 l.label) t₂ e₂ → Put t₂ e₂ (32 ∷ []) t₃ e₃ → Put t₃ e₃ (digits_in 5 l.name) t₄ e₄ → Put t p (fields l) t₄ e₄
-fields-put l {t} {p = p} {e₄ = e₄} h a b c d =
-    let o : e₄ ≤ length t = omega (arith, fields-length l, a.end, b.end, c.end, d.end) in
-    put_as (fields-are l) (put_then (put_then (put_then a b (omega (arith, c.end, d.end))) c (omega (arith, d.end))) d o)
+pub fields-put : (l : Line) {t t₁ t₂ t₃ : List ℕ} {p e₁ e₂ e₃ : ℕ} → p + length (fields l) ≤ length t →
+    Put t p (kind_word l.capability) t₁ e₁ → Put t₁ e₁ (field_by l.label 32) t₂ e₂ → Put t₂ e₂ (digits_in 5 l.name) t₃ e₃ → Put t p (fields l) t₃ e₃
+fields-put l {t} {p = p} {e₃ = e₃} h a b c =
+    let o : e₃ ≤ length t = omega (arith, fields-length l, by-length l.label 32, a.end, b.end, c.end) in
+    put_as (fields-are l) (put_then (put_then a b (omega (arith, c.end))) c o)
 
 pub entry-put : (f b : List ℕ) (l : Line) {t t₁ t₂ t₃ t₄ t₅ : List ℕ} {p e₁ e₂ e₃ e₄ e₅ : ℕ} → p + length (entry f b l) ≤ length t →
     Put t p (replicate (2 * l.depth) 32) t₁ e₁ → Put t₁ e₁ f t₂ e₂ → Put t₂ e₂ (fields l) t₃ e₃ → Put t₃ e₃ b t₄ e₄ → Put t₄ e₄ (10 ∷ []) t₅ e₅ → Put t p (entry f b l) t₅ e₅

@@ -1,7 +1,7 @@
 -- Room: a valid itinerary has at most 1,024 lines, each indented by at most one step more than the one before and with at
 -- most 14 bytes after the indentation; the listing has at most 13 more in a line. So a program that lends enough always has
 -- its text, which is empty where it is refused.
-use Rattle.std.specs.Prelude.{◌*◌, ◌+◌, ◌≤◌, suc, zero, ℕ, eqb, leb, Bool, ◌&&◌, false, true, List, [], ◌∷◌, map}
+use Rattle.std.specs.Prelude.{◌*◌, ◌+◌, ◌≤◌, suc, zero, ℕ, is_none, leb, Bool, false, true, List, [], ◌∷◌, map}
 use borrow.Author.Tests.{le-leb, leb-true}
 use Rattle.std.proofs.Math.ListN.{length, length-map}
 use Rattle.std.proofs.Common.{length-append, ◌∙◌, arith}
@@ -12,6 +12,8 @@ use Rattle.model.proofs.Laws.Booleans.{and_right}
 use Rattle.model.specs.Listing.{digits_in, field}
 use Rattle.model.specs.Numbers.{number_of}
 use Rattle.model.specs.Records.{records}
+use Rattle.model.specs.declared.Capability.{Capability}
+use Rattle.model.specs.declared.Capability.TheVariants.{In as cap-in, Open as cap-open, Out as cap-out}
 use Rattle.model.specs.Refusals.{Check, content, pass, refuse}
 use Rattle.model.specs.Validity.{label_in, validity}
 use Rattle.model.specs.declared.Rec.{Rec}
@@ -46,26 +48,17 @@ budget-more (suc n) zero d e h k = absurd (omega arith)
 budget-more (suc n) (suc m) d e h k = omega (arith, budget-more n m (suc d) (suc e) (omega arith) (omega arith))
 
 -- the word and the label together
-word-label : (k l : ℕ) → 1 ≤ k → k ≤ 4 → (k ≡ 1 → l ≤ 63) → length (kind_word k) + length (digits_in 5 l) ≤ 10
-unfolding kind_word ambient_word in_word out_word open_word
-word-label zero l a b h = absurd (omega arith)
-word-label (suc zero) l a b h = omega (arith, digits-two l (omega (arith, h refl)))
-word-label (suc (suc zero)) l a b h = omega (arith, digits-few 5 l)
-word-label (suc (suc (suc zero))) l a b h = omega (arith, digits-few 5 l)
-word-label (suc (suc (suc (suc zero)))) l a b h = omega (arith, digits-few 5 l)
-word-label (suc (suc (suc (suc (suc k))))) l a b h = absurd (omega arith)
-
-label-low : (l : Line) → l.kind ≡ 1 → label_in (eqb l.kind 1) l.label ≡ true → l.label ≤ 63
-unfolding label_in
-label-low l e h =
-    let r : (leb 1 l.label && leb l.label 63) ≡ true = rw e at h in
-    leb-true l.label 63 (and_right (leb 1 l.label) _ r)
+word-label : (k : Option Capability) (l : ℕ) → label_in (is_none k) l ≡ true → length (kind_word k) + length (digits_in 5 l) ≤ 10
+unfolding kind_word ambient_word in_word out_word open_word label_in
+word-label None l h = omega (arith, digits-two l (omega (arith, leb-true l 63 (and_right (leb 1 l) _ h))))
+word-label (Some cap-in) l h = omega (arith, digits-few 5 l)
+word-label (Some cap-out) l h = omega (arith, digits-few 5 l)
+word-label (Some cap-open) l h = omega (arith, digits-few 5 l)
 
 line-short : (l : Line) → Right l → length (line_bytes l) ≤ 2 * l.depth + 14
 unfolding line_bytes
 line-short l r =
-    let low : l.kind ≡ 1 → l.label ≤ 63 = λ e. label-low l e r.label in
-    omega (arith, entry_length [] [] l, fields-length l, word-label l.kind l.label r.kind-low r.kind-high low, digits-two l.name (omega (arith, r.name)))
+    omega (arith, entry_length [] [] l, fields-length l, word-label l.capability l.label r.label, digits-two l.name (omega (arith, r.name)))
 
 render-short : {d : ℕ} {ls : List Line} → Nested d ls → length (render ls) ≤ budget (length ls) d
 unfolding render budget

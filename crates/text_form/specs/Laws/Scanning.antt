@@ -1,10 +1,10 @@
 -- Reading, a byte at a time: what each test of the code decides.
-use Prim.Native.Nat.{◌%◌, ◌*◌, ◌+◌, ◌-◌, ◌/◌, ◌<◌, ◌≤◌, suc, zero, ℕ}
-use borrow.Author.Tests.{eq-eqb, leb-true, le-leb, lt-leb, ne_eqb}
+use Prim.Native.Nat.{◌*◌, ◌+◌, ◌-◌, ◌<◌, ◌≤◌, suc, ℕ}
+use borrow.Author.Tests.{eq-eqb, leb-true, ne_eqb}
 use Rattle.std.specs.Prelude.{cond, eqb, ltb, nat_eq, not, ◌&&◌, unwrap_or, drop, get_or, length, take, Bool, false, true, List, [], ◌∷◌, ◌≢◌, ◌≡◌, refl}
 use Rattle.std.specs.Prelude.{Option, None, Some, Ok, Err}
 use Rattle.std.proofs.Math.ListN.{get_or-eq_default}
-use Rattle.std.proofs.Common.{length-drop, take_all, ◌∙◌, ap, sym}
+use Rattle.std.proofs.Common.{drop-cons, drop_of_length-le, length-drop, take_all, ◌∙◌, ap, sym}
 use Rattle.std.specs.List.{position_or_len, starts_with}
 use Rattle.std.proofs.lemmas.Bool.{ltb-false}
 use lib.Pointwise.{pointwise}
@@ -12,14 +12,12 @@ use Rattle.std.proofs.Math.Decide.{dec_lt, ℕ_discrete}
 use native.Mathlib.Omega.{arith}
 use Rattle.model.proofs.Laws.Booleans.{and_left}
 use Rattle.model.specs.Records.{byte}
-use Rattle.model.specs.Validity.{label_in}
+use Rattle.model.specs.declared.Capability.{Capability}
 use Rattle.text_form.specs.Laws.Lines.{number-some, numeral-0, numeral-1, numeral-2, numeral-3}
-use Rattle.text_form.specs.Lines.{ambient_word, in_word, kind_word, open_word, out_word}
-use Rattle.text_form.specs.Reading.{cause_at, demand, digit, digits_cause, ended, indent_cause, labelled, leading, line_read, mark_bytes, named, number_alone, number_read, numeral, numeral_of, spaces, starts, unworded, with_number, worded}
+use Rattle.text_form.specs.Lines.{kind_word}
+use Rattle.text_form.specs.Reading.{digit, digits_cause, labelled, leading, number_alone, number_read, numeral, numeral_of, starts, unworded, worded_by}
 use Rattle.text_form.specs.declared.Cause.{Cause}
-use Rattle.text_form.specs.declared.Cause.TheVariants as cause
 use Rattle.text_form.specs.declared.Decimal.{Decimal}
-use Rattle.text_form.specs.declared.Line.{Line}
 
 -- bytes that pass a test
 pub leading-inside : (test : ℕ → Bool) (s : List ℕ) → leading test s ≤ length s
@@ -60,11 +58,11 @@ eqb-turned x y = go (ℕ_discrete x y)
     go (no e) = ne_eqb x y e ∙ sym (ne_eqb y x (λ q. e (sym q)))
 
 -- as the library tests it
-pub starts-with : (w s : List ℕ) → starts w s ≡ starts_with nat_eq s w
+pub starts_tested : (w s : List ℕ) → starts w s ≡ starts_with nat_eq s w
 unfolding starts
-starts-with [] s = refl
-starts-with (c ∷ w) [] = refl
-starts-with (c ∷ w) (x ∷ s) = rw (eqb-turned x c, starts) (go (eqb c x) (starts-with w s))
+starts_tested [] s = refl
+starts_tested (c ∷ w) [] = refl
+starts_tested (c ∷ w) (x ∷ s) = rw (eqb-turned x c, starts) (go (eqb c x) (starts_tested w s))
   where
     go : (b : Bool) → starts w s ≡ starts_with nat_eq s w → elim b [ true ↦ starts w s | false ↦ false ] ≡ (b && starts_with nat_eq s w)
     go true ih = ih
@@ -133,145 +131,34 @@ numeral-width s {n} e =
     (λ p u q r. omega (arith, digit-inside s 2 r)) in
     rw e at all
 
--- the cause at a place
-module _ (given : Cause) (s : List ℕ) where
-  pub cause-return : byte s 0 ≡ 13 → cause_at given s ≡ cause.CarriageReturn
-  unfolding cause_at
-  cause-return e = rw (eq-eqb _ _ e, cause_at)
+-- digits stand after the number
+pub number_more : (missing : Cause) (s : List ℕ) {n : Decimal} → numeral s ≡ Some n → digit (byte s n.width) ≡ true → number_read missing s ≡ Err (digits_cause n.width)
+unfolding number_read number_alone
+number_more missing s q e = rw (q, number_alone) (rw e)
 
-  module _ (r : byte s 0 ≢ 13) where
-    pub cause-tab : byte s 0 ≡ 9 → cause_at given s ≡ cause.Tab
-    unfolding cause_at
-    cause-tab e = rw (ne_eqb _ _ r, cause_at) (rw (eq-eqb _ _ e))
+-- the kinds from number i on: the first has its word w there, or has it not, or there is none
+module _ (ks : List (Option Capability)) (i : ℕ) (d : ℕ) (s : List ℕ) where
+  module _ (z : Option Capability) {w : List ℕ} (l : i < length ks) (e : w ≡ kind_word (get_or ks i z)) where
+    word-there : {b : Bool} → pointwise nat_eq (take (length w) s) w ≡ b → starts (kind_word (get_or ks i z)) s ≡ b
+    word-there h = ap (λ x. starts x s) (sym e) ∙ starts-prefix w s ∙ h
 
-    module _ (t : byte s 0 ≢ 9) where
-      pub cause-mark : starts mark_bytes s ≡ true → cause_at given s ≡ cause.ByteOrderMark
-      unfolding cause_at
-      cause-mark e = rw (ne_eqb _ _ r, cause_at) (rw (ne_eqb _ _ t) (rw e))
+    pub worded-here : pointwise nat_eq (take (length w) s) w ≡ true → worded_by (drop i ks) d s ≡ labelled d (get_or ks i z) (drop (length w) s)
+    unfolding worded_by
+    worded-here h = rw (drop-cons ks i z l) (rw (word-there h, worded_by) (ap (λ x. labelled d (get_or ks i z) (drop (length x) s)) (sym e)))
 
-      pub cause-given : starts mark_bytes s ≡ false → cause_at given s ≡ given
-      unfolding cause_at
-      cause-given e = rw (ne_eqb _ _ r, cause_at) (rw (ne_eqb _ _ t) (rw e))
+    pub worded-later : pointwise nat_eq (take (length w) s) w ≡ false → worded_by (drop i ks) d s ≡ worded_by (drop (i + 1) ks) d s
+    unfolding worded_by
+    worded-later h =
+        let u : suc i ≡ i + 1 = omega arith in
+        rw (drop-cons ks i z l) (rw (word-there h, worded_by) (ap (λ j. worded_by (drop j ks) d s) u))
 
--- a number that stands there, or what is wrong with it
-module _ (missing : Cause) (s : List ℕ) where
-  pub number-missing : numeral s ≡ None → number_read missing s ≡ Err (cause_at missing s)
-  unfolding number_read number_alone
-  number-missing e = rw e
-
-  module _ {n : Decimal} (q : numeral s ≡ Some n) where
-    pub number_more : digit (byte s n.width) ≡ true → number_read missing s ≡ Err (digits_cause n.width)
-    unfolding number_read number_alone
-    number_more e = rw (q, number_alone) (rw e)
-
-    pub number-right : digit (byte s n.width) ≡ false → number_read missing s ≡ Ok n
-    unfolding number_read number_alone
-    number-right e = rw (q, number_alone) (rw e)
-
-pub ended-none : (l : Line) (s : List ℕ) → length s ≡ 0 → ended l s ≡ Err cause.NoEnd
-unfolding ended
-ended-none l [] e = refl
-ended-none l (c ∷ s) e = absurd (omega arith)
-
-pub ended-other : (l : Line) (s : List ℕ) → length s ≢ 0 → get_or s 0 0 ≢ 10 → ended l s ≡ Err (cause_at cause.AfterName s)
-unfolding ended demand
-ended-other l [] z e = absurd (z refl)
-ended-other l (c ∷ s) z e = rw (ne_eqb c 10 e)
-
-pub ended_here : (l : Line) (s : List ℕ) → length s ≢ 0 → get_or s 0 0 ≡ 10 → ended l s ≡ Ok (record { line = l; left = length s - 1 })
-unfolding ended demand
-ended_here l [] z e = absurd (z refl)
-ended_here l (c ∷ s) z e = let u : length s ≡ suc (length s) - 1 = omega arith in rw (eq-eqb c 10 e) (ap (λ n. Ok (record { line = l; left = n })) u)
-
--- each demand that fails, and all that hold
-module _ (d k label : ℕ) (s : List ℕ) where
-  pub named-apart : byte s 0 ≢ 32 → named d k label s ≡ Err (cause_at cause.NoName s)
-  unfolding named demand
-  named-apart e = rw (ne_eqb _ _ e)
-
-  module _ (e : byte s 0 ≡ 32) where
-    pub named-wrong : {c : Cause} → number_read cause.NoName (drop 1 s) ≡ Err c → named d k label s ≡ Err c
-    unfolding named demand with_number
-    named-wrong h = rw (eq-eqb _ _ e) (rw h)
-
-    module _ {n : Decimal} (q : number_read cause.NoName (drop 1 s) ≡ Ok n) where
-      pub named-large : 63 < n.value → named d k label s ≡ Err cause.WrongName
-      unfolding named demand with_number
-      named-large l = rw (eq-eqb _ _ e) (rw (q, with_number) (rw (lt-leb n.value 63 l)))
-
-      pub named-on : n.value ≤ 63 → named d k label s ≡ ended (record { depth = d; kind = k; label = label; name = n.value }) (drop n.width (drop 1 s))
-      unfolding named demand with_number
-      named-on l = rw (eq-eqb _ _ e) (rw (q, with_number) (rw (le-leb n.value 63 l)))
-
-module _ (d k : ℕ) (s : List ℕ) where
-  pub labelled-none : {c : Cause} → number_read cause.NoLabel s ≡ Err c → labelled d k s ≡ Err c
-  unfolding labelled with_number
-  labelled-none h = rw h
-
-  module _ {n : Decimal} (q : number_read cause.NoLabel s ≡ Ok n) where
-    pub labelled-wrong : label_in (eqb k 1) n.value ≡ false → labelled d k s ≡ Err cause.WrongLabel
-    unfolding labelled demand with_number
-    labelled-wrong e = rw (q, with_number) (rw e)
-
-    pub labelled-on : label_in (eqb k 1) n.value ≡ true → labelled d k s ≡ named d k n.value (drop n.width s)
-    unfolding labelled demand with_number
-    labelled-on e = rw (q, with_number) (rw e)
-
-module _ (d : ℕ) (s : List ℕ) where
-  worded-1 : starts ambient_word s ≡ true → worded d s ≡ labelled d 1 (drop 8 s)
-  unfolding worded
-  worded-1 e = rw (e, worded)
-
-  module _ (a : starts ambient_word s ≡ false) where
-    worded-2 : starts in_word s ≡ true → worded d s ≡ labelled d 2 (drop 3 s)
-    unfolding worded
-    worded-2 e = rw (a, worded) (rw e)
-
-    worded-3 : starts in_word s ≡ false → starts out_word s ≡ true → worded d s ≡ labelled d 3 (drop 4 s)
-    unfolding worded
-    worded-3 b e = rw (a, worded) (rw b (rw e))
-
-    worded-4 : starts in_word s ≡ false → starts out_word s ≡ false → starts open_word s ≡ true → worded d s ≡ labelled d 4 (drop 5 s)
-    unfolding worded
-    worded-4 b o e = rw (a, worded) (rw b (rw o (rw e)))
-
-    worded-none : starts in_word s ≡ false → starts out_word s ≡ false → starts open_word s ≡ false → worded d s ≡ unworded s
-    unfolding worded
-    worded-none b o e = rw (a, worded) (rw b (rw o (rw e)))
-
--- the first kind whose word the line starts with
-pub worded-first : (d : ℕ) (s : List ℕ) (k : ℕ) → 1 ≤ k → k ≤ 4 → ((j : ℕ) → j < k → 1 ≤ j → starts (kind_word j) s ≡ false) → starts (kind_word k) s ≡ true → worded d s ≡ labelled d k (drop (length (kind_word k)) s)
-unfolding kind_word ambient_word in_word out_word open_word
-worded-first d s zero l h f e = absurd (omega arith)
-worded-first d s (suc zero) l h f e = worded-1 d s e
-worded-first d s (suc (suc zero)) l h f e = worded-2 d s (f 1 (omega arith) (omega arith)) e
-worded-first d s (suc (suc (suc zero))) l h f e = worded-3 d s (f 1 (omega arith) (omega arith)) (f 2 (omega arith) (omega arith)) e
-worded-first d s (suc (suc (suc (suc zero)))) l h f e = worded-4 d s (f 1 (omega arith) (omega arith)) (f 2 (omega arith) (omega arith)) (f 3 (omega arith) (omega arith)) e
-worded-first d s (suc (suc (suc (suc (suc k))))) l h f e = absurd (omega arith)
-
-pub worded-never : (d : ℕ) (s : List ℕ) → ((j : ℕ) → j < 5 → 1 ≤ j → starts (kind_word j) s ≡ false) → worded d s ≡ unworded s
-unfolding kind_word
-worded-never d s f = worded-none d s (f 1 (omega arith) (omega arith)) (f 2 (omega arith) (omega arith)) (f 3 (omega arith) (omega arith)) (f 4 (omega arith) (omega arith))
-
-module _ (deepest : ℕ) (s : List ℕ) (n : ℕ) (q : n ≡ spaces s) where
-  pub line-odd : n % 2 ≢ 0 → line_read deepest s ≡ Err (indent_cause cause.OddIndent deepest (drop n s))
-  unfolding line_read demand
-  line-odd e = rw (← q) (rw (ne_eqb _ _ e))
-
-  pub line-deep : n % 2 ≡ 0 → deepest < n / 2 → line_read deepest s ≡ Err (indent_cause cause.TooDeep deepest (drop n s))
-  unfolding line_read demand
-  line-deep e l = rw (← q) (rw (eq-eqb _ _ e, lt-leb (n / 2) deepest l))
-
-  pub line_on : n % 2 ≡ 0 → n / 2 ≤ deepest → line_read deepest s ≡ worded (n / 2) (drop n s)
-  unfolding line_read demand
-  line_on e l = rw (← q) (rw (eq-eqb _ _ e, le-leb (n / 2) deepest l))
+  pub worded_end : length ks ≤ i → worded_by (drop i ks) d s ≡ unworded s
+  unfolding worded_by
+  worded_end l = rw (drop_of_length-le ks l)
 
 -- the part of a slice from n on
 pub part : (n : ℕ) (s : List ℕ) → take (length s - n) (drop n s) ≡ drop n s
 part n s = take_all (length s - n) (drop n s) (omega (arith, length-drop n s))
-
-pub part-part : (m n : ℕ) (s : List ℕ) → take (length (take (length s - n) (drop n s)) - m) (drop m (take (length s - n) (drop n s))) ≡ drop m (drop n s)
-part-part m n s = part m (take (length s - n) (drop n s)) ∙ ap (drop m) (part n s)
 
 pub width-inside : (missing : Cause) (s : List ℕ) {n : Decimal} → number_read missing s ≡ Ok n → n.width ≤ length s
 width-inside missing s q = numeral-width s (number-some missing s q)

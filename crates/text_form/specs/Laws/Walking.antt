@@ -3,17 +3,18 @@ use Prim.Native.Nat.{◌*◌, ◌+◌, ◌-◌, ◌/◌, ◌<◌, ◌≤◌, suc
 use Rattle.std.proofs.Common.{le-leb, length-append, ◌∙◌, sym}
 use Rattle.std.proofs.lemmas.Bool.{lt-leb}
 use Rattle.std.proofs.Math.Dec.{eqb}
-use Rattle.std.specs.Prelude.{leb, Bool, ◌&&◌, false, true, ◌≢◌, ◌≡◌}
+use Rattle.std.specs.Prelude.{leb, Bool, ◌&&◌, false, not, true, ◌≡◌}
 use Rattle.std.proofs.Math.ListN.{length}
 use mathlib.Core.List.{List, [], ◌++◌, ◌∷◌, map}
 use Rattle.std.specs.Prelude.{Option, None, Some}
-use Rattle.model.proofs.Laws.Finite.{lowest-some}
 use Rattle.std.proofs.Math.Path.{ap, refl, subst}
 use native.Mathlib.Omega.{arith}
 use Rattle.model.specs.Finite.{Each, lowest, unequal}
 use Rattle.model.proofs.Laws.Bytes.{at-whole, length-records, valid-few, valid-whole}
 use Rattle.model.specs.Listing.{field}
-use Rattle.model.specs.Records.{at, count, decode, records}
+use Rattle.model.specs.Records.{at, capability, count, decode, records}
+use Rattle.model.specs.declared.Capability.{Capability}
+use Rattle.model.specs.declared.Capability.TheVariants.{In as cap-in, Open as cap-open, Out as cap-out}
 use Rattle.model.specs.Refusals.{content, pass, refuse}
 use Rattle.model.specs.Validity.{validity}
 use Rattle.model.specs.declared.Rec.{Rec}
@@ -25,7 +26,7 @@ use Rattle.text_form.specs.Laws.Nesting.{walk-next}
 use Rattle.text_form.specs.Laws.Putting.{entry_length, fields-length}
 use Rattle.text_form.specs.Lines.{ambient_word, entry, hidden_word, in_word, kind_word, line_bytes, open_word, out_word, render}
 use Rattle.text_form.specs.Parts.{Whole, Written, front, visit_line}
-use Rattle.text_form.specs.Writing.{Length, NoRoom, Refused, TextWritten, child_after, child_or, child_over, fits, is_child, line_at, lines_of, mark, next_from, or_zero, over_if, text_of, told, told_after, walk, visit_of, walk_from, write_after, write_answer}
+use Rattle.text_form.specs.Writing.{Length, NoRoom, Refused, TextWritten, child_or, child_over, fits, is_child, line_at, lines_of, mark, next_from, over_if, text_of, told, told_after, walk, walk_from, write_after, write_answer}
 use Rattle.text_form.specs.declared.Visit.{Visit}
 
 -- record i as it is read
@@ -37,9 +38,9 @@ unfolding count
 whole-count s = length-records s
 
 module _ (its : List Rec) (p j : ℕ) where
-  pub child-test : (r : Rec) {b : Bool} → r ≡ at its j → (unequal r.kind 0 && eqb r.parent p) ≡ b → is_child its p j ≡ b
+  pub child-test : (r : Rec) {g b : Bool} → r ≡ at its j → g ≡ eqb r.kind 0 → (not g && eqb r.parent p) ≡ b → is_child its p j ≡ b
   unfolding is_child
-  child-test r e q = ap (λ x. unequal x.kind 0 && eqb x.parent p) (sym e) ∙ q
+  child-test r e g q = ap (λ x. unequal x.kind 0 && eqb x.parent p) (sym e) ∙ ap (λ x. not x && eqb r.parent p) (sym g) ∙ q
 
   pub child-hit : j < length its → is_child its p (j + 1) ≡ true → child_over its p j ≡ Some (j + 1)
   unfolding lowest
@@ -59,113 +60,59 @@ module _ (its : List Rec) (p j : ℕ) where
   unfolding lowest
   child-end l = let u : length its - j ≡ 0 = omega arith in rw u
 
--- the visit of a number, none where it is 0
-visit-some : (v : Visit) → v.number ≢ 0 → visit_of v ≡ Some v
-unfolding visit_of
-visit-some v z = go v.number refl
-  where
-    go : (n : ℕ) → v.number ≡ n → visit_of v ≡ Some v
-    go zero e = absurd (z e)
-    go (suc n) e = rw e
-
-visit-none : (v : Visit) → v.number ≡ 0 → visit_of v ≡ None
-unfolding visit_of
-visit-none v e = rw e
-
--- what a visit tells of the record to visit next
-pub visited : (w : Visit) {o : Option Visit} {v : Visit} → o ≡ visit_of w → o ≡ Some v → (v ≡ w) × (v.number ≢ 0)
-unfolding visit_of
-visited w {o} {v} e q = go w.number refl
-  where
-    go : (n : ℕ) → w.number ≡ n → (v ≡ w) × (v.number ≢ 0)
-    go zero z = let u : ◌≡◌ {A = Option Visit} (Some v) None = sym q ∙ e ∙ visit-none w z in let k : ◌≡◌ {A = ℕ} 0 1 = cc in absurd (omega arith)
-    go (suc n) z = let u : ◌≡◌ {A = Option Visit} (Some v) (Some w) = sym q ∙ e ∙ visit-some w (λ k. omega (arith, k, z)) in let k : v ≡ w = cc in (k, λ x. omega (arith, x, z, ap (λ y. y.number) k))
-
-pub visited_none : (w : Visit) {o : Option Visit} → o ≡ visit_of w → o ≡ None → w.number ≡ 0
-unfolding visit_of
-visited_none w {o} e q = go w.number refl
-  where
-    go : (n : ℕ) → w.number ≡ n → w.number ≡ 0
-    go zero z = z
-    go (suc n) z = let u : ◌≡◌ {A = Option Visit} None (Some w) = sym q ∙ e ∙ visit-some w (λ k. omega (arith, k, z)) in let k : ◌≡◌ {A = ℕ} 0 1 = cc in absurd (omega arith)
-
+-- the record to visit next
 module _ (its : List Rec) (e q after : ℕ) where
-  child-over : {j : ℕ} → child_over its q after ≡ Some j → (child_after its q after ≡ j) × (j ≢ 0)
-  unfolding child_after or_zero
-  child-over {j} c = (ap or_zero c, λ z. omega (arith, (lowest-some (is_child its q) (suc after) (length its - after) j c).0, z))
-
-  child-gone : child_over its q after ≡ None → child_after its q after ≡ 0
-  unfolding child_after or_zero
-  child-gone c = ap or_zero c
-
-  hit : (j : ℕ) → 0 < e → child_after its q after ≡ j → j ≢ 0 → next_from its e q after ≡ record { number = j; depth = e }
+  pub next-hit : {j : ℕ} → 0 < e → child_over its q after ≡ Some j → Some (record { number = j; depth = e }) ≡ next_from its e q after
   unfolding next_from child_or
-  hit zero l c z = absurd (z refl)
-  hit (suc j) l c z = let u : e ≡ suc (e - 1) = omega arith in rw u (rw c)
-
-  pub next-hit : {j : ℕ} → 0 < e → child_over its q after ≡ Some j → Some (record { number = j; depth = e }) ≡ visit_of (next_from its e q after)
-  next-hit {j} l c =
-      let a = child-over c in
-      let u : next_from its e q after ≡ record { number = j; depth = e } = hit j l a.0 a.1 in
-      sym (ap visit_of u ∙ visit-some (record { number = j; depth = e }) a.1)
+  next-hit l c = let u : e ≡ suc (e - 1) = omega arith in rw u (rw c)
 
   pub next_up : {r : Rec} → 0 < e → child_over its q after ≡ None → r ≡ at its q → next_from its e q after ≡ next_from its (e - 1) r.parent q
   unfolding next_from child_or
   next_up {r} l c h =
       let u : e ≡ suc (e - 1) = omega arith in
-      ap (λ n. next_from its n q after) u ∙ rw (child-gone c, child_or) (ap (λ x. next_from its (e - 1) x.parent q) (sym h))
+      ap (λ n. next_from its n q after) u ∙ rw (c, child_or) (ap (λ x. next_from its (e - 1) x.parent q) (sym h))
 
-  pub next_last : {j : ℕ} → e ≤ 0 → child_over its q after ≡ Some j → Some (record { number = j; depth = 0 }) ≡ visit_of (next_from its e q after)
-  unfolding next_from
-  next_last {j} l c =
-      let a = child-over c in
-      let u : e ≡ 0 = omega arith in
-      sym (rw (u, a.0) (visit-some (record { number = j; depth = 0 }) a.1))
+  pub next_last : {j : ℕ} → e ≤ 0 → child_over its q after ≡ Some j → Some (record { number = j; depth = 0 }) ≡ next_from its e q after
+  unfolding next_from child_or
+  next_last l c = let u : e ≡ 0 = omega arith in rw (u, c)
 
-  pub next-none : e ≤ 0 → child_over its q after ≡ None → None ≡ visit_of (next_from its e q after)
-  unfolding next_from
-  next-none l c = let u : e ≡ 0 = omega arith in sym (rw (u, child-gone c) (visit-none (record { number = 0; depth = 0 }) refl))
+  pub next-none : e ≤ 0 → child_over its q after ≡ None → None ≡ next_from its e q after
+  unfolding next_from child_or
+  next-none l c = let u : e ≡ 0 = omega arith in rw (u, c)
 
 -- a visit is written as its line
-pub visit-is : (listed : Bool) (its shown : List Rec) (v : Visit) (r x : Rec) → r ≡ at its v.number → x ≡ at shown v.number →
-    entry (front listed v.number) (mark (listed && eqb x.kind 0)) (record { depth = v.depth; kind = r.kind; label = r.label; name = r.name }) ≡ visit_line listed its shown v
+pub visit-is : (listed : Bool) (its shown : List Rec) (v : Visit) (r x : Rec) {k : Option Capability} {b : Bool} → r ≡ at its v.number → x ≡ at shown v.number → k ≡ capability r.kind → b ≡ eqb x.kind 0 →
+    entry (front listed v.number) (mark (listed && b)) (record { depth = v.depth; capability = k; label = r.label; name = r.name }) ≡ visit_line listed its shown v
 unfolding visit_line line_at
-visit-is listed its shown v r x e f = rw (e, f)
+visit-is listed its shown v r x e f g h = rw (g, h) (rw (e, f))
 
 -- how a walk goes on
-module _ (its : List Rec) (left p d : ℕ) (v : Visit) (e : v ≡ next_from its d p 0) where
-  pub walk-on : 0 < left → v.number ≢ 0 → walk_from its left p d ≡ v ∷ walk_from its (left - 1) v.number (v.depth + 1)
-  walk-on l z =
+module _ (its : List Rec) (left p d : ℕ) where
+  pub walk-on : {v : Visit} → 0 < left → next_from its d p 0 ≡ Some v → walk_from its left p d ≡ v ∷ walk_from its (left - 1) v.number (v.depth + 1)
+  walk-on {v} l e =
       let u : left ≡ suc (left - 1) = omega arith in
-      let n : v.number ≡ suc (v.number - 1) = omega arith in
-      let q : next_from its d p 0 ≡ record { number = suc (v.number - 1); depth = v.depth } = sym e ∙ ap (λ k. record { number = k; depth = v.depth }) n in
       let w : v.depth + 1 ≡ suc v.depth = omega arith in
-      ap (λ k. walk_from its k p d) u ∙ walk-next its (left - 1) p d (v.number - 1) v.depth q ∙ rw (← n, w)
+      ap (λ k. walk_from its k p d) u ∙ walk-next its (left - 1) p d v e ∙ rw w
 
-  pub walk-stop : v.number ≡ 0 → walk_from its left p d ≡ []
+  pub walk-stop : next_from its d p 0 ≡ None → walk_from its left p d ≡ []
   unfolding walk_from
-  walk-stop z = go left
+  walk-stop e = go left
     where
       go : (n : ℕ) → walk_from its n p d ≡ []
       go zero = refl
-      go (suc n) = walk_end its n p d (ap (λ x. x.number) (sym e) ∙ z)
-
-  pub visit-deep : v.depth ≤ d
-  visit-deep = rw e (next-visited its d p 0).deep
+      go (suc n) = walk_end its n p d e
 
 pub walk_none : (its : List Rec) (left p d : ℕ) → left ≤ 0 → walk_from its left p d ≡ []
 unfolding walk_from
 walk_none its left p d l = let u : left ≡ 0 = omega arith in rw u
 
 -- no line is long
-word-short : (k : ℕ) → length (kind_word k) ≤ 8
+word-short : (k : Option Capability) → length (kind_word k) ≤ 8
 unfolding kind_word ambient_word in_word out_word open_word
-word-short zero = omega arith
-word-short (suc zero) = omega arith
-word-short (suc (suc zero)) = omega arith
-word-short (suc (suc (suc zero))) = omega arith
-word-short (suc (suc (suc (suc zero)))) = omega arith
-word-short (suc (suc (suc (suc (suc k))))) = omega arith
+word-short None = omega arith
+word-short (Some cap-in) = omega arith
+word-short (Some cap-out) = omega arith
+word-short (Some cap-open) = omega arith
 
 pub mark-short : (b : Bool) → length (mark b) ≤ 7
 unfolding mark hidden_word
@@ -180,31 +127,28 @@ front-short false n = omega arith
 pub visit-short : (listed : Bool) (its shown : List Rec) (v : Visit) → v.depth ≤ 1024 → length (visit_line listed its shown v) ≤ 2100
 unfolding visit_line line_at
 visit-short listed its shown v h =
-    omega (arith, entry_length (front listed v.number) (mark (listed && eqb (at shown v.number).kind 0)) (line_at its v), fields-length (line_at its v), front-short listed v.number, mark-short (listed && eqb (at shown v.number).kind 0), word-short (at its v.number).kind, digits-few 5 (at its v.number).label, digits-few 5 (at its v.number).name)
+    omega (arith, entry_length (front listed v.number) (mark (listed && eqb (at shown v.number).kind 0)) (line_at its v), fields-length (line_at its v), front-short listed v.number, mark-short (listed && eqb (at shown v.number).kind 0), word-short (capability (at its v.number).kind), digits-few 5 (at its v.number).label, digits-few 5 (at its v.number).name)
 
 -- a walk has no more visits than it may have, and none is deep
 walk-few : (its : List Rec) (n p d : ℕ) → length (walk_from its n p d) ≤ n
 unfolding walk_from
 walk-few its zero p d = omega arith
-walk-few its (suc n) p d = go (next_from its d p 0).number refl (walk-few its n)
+walk-few its (suc n) p d = go (next_from its d p 0) refl (walk-few its n)
   where
-    go : (j : ℕ) → (next_from its d p 0).number ≡ j → ((p d : ℕ) → length (walk_from its n p d) ≤ n) → length (walk_from its (suc n) p d) ≤ suc n
-    go zero e ih = rw (walk_end its n p d e) (omega arith)
-    go (suc j) e ih =
-        let q : next_from its d p 0 ≡ record { number = suc j; depth = (next_from its d p 0).depth } = rw (← e) in
-        rw (walk-next its n p d j _ q) (omega (arith, ih (suc j) (suc (next_from its d p 0).depth)))
+    go : (o : Option Visit) → next_from its d p 0 ≡ o → ((p d : ℕ) → length (walk_from its n p d) ≤ n) → length (walk_from its (suc n) p d) ≤ suc n
+    go None e ih = rw (walk_end its n p d e) (omega arith)
+    go (Some v) e ih = rw (walk-next its n p d v e) (omega (arith, ih v.number (suc v.depth)))
 
 walk-shallow : (its : List Rec) (n p d : ℕ) → d + n ≤ 1024 → Each (λ v. v.depth ≤ 1024) (walk_from its n p d)
 unfolding walk_from
 walk-shallow its zero p d h = tt
-walk-shallow its (suc n) p d h = go (next_from its d p 0).number refl (walk-shallow its n)
+walk-shallow its (suc n) p d h = go (next_from its d p 0) refl (walk-shallow its n)
   where
-    go : (j : ℕ) → (next_from its d p 0).number ≡ j → ((p d : ℕ) → d + n ≤ 1024 → Each (λ v. v.depth ≤ 1024) (walk_from its n p d)) → Each (λ v. v.depth ≤ 1024) (walk_from its (suc n) p d)
-    go zero e ih = rw (walk_end its n p d e) tt
-    go (suc j) e ih =
-        let q : next_from its d p 0 ≡ record { number = suc j; depth = (next_from its d p 0).depth } = rw (← e) in
-        let deep = (next-visited its d p 0).deep in
-        rw (walk-next its n p d j _ q) (omega arith, ih (suc j) (suc (next_from its d p 0).depth) (omega arith))
+    go : (o : Option Visit) → next_from its d p 0 ≡ o → ((p d : ℕ) → d + n ≤ 1024 → Each (λ v. v.depth ≤ 1024) (walk_from its n p d)) → Each (λ v. v.depth ≤ 1024) (walk_from its (suc n) p d)
+    go None e ih = rw (walk_end its n p d e) tt
+    go (Some v) e ih =
+        let deep = (next-visited its d p 0 v e).deep in
+        rw (walk-next its n p d v e) (omega arith, ih v.number (suc v.depth) (omega arith))
 
 -- used bytes of all lines are counted, and there is room for the count of the visits left
 pub record Measured (f : Visit → List ℕ) (all left : List Visit) (used : ℕ) : Type 0 where

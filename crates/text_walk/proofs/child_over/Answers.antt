@@ -9,13 +9,13 @@ overflow_cast-n c = record { fits = omega (arith, c.requires.few) }
 pub loop-j-init : goal.loop-j-init
 loop-j-init c = refl
 
-pub returns-then-r-p : goal.returns-then-r-p
-returns-then-r-p c =
-    sym (c.loop-j.invariant ∙ child-hit _ _ _ (omega (arith, c.loop-j-test.true, whole-count c.args.it.now)) (child-test _ _ _ c.record_at-r.result (at-is c.requires _ _ c.record_at-r.ensures) c.if-r-p.true))
+pub returns-then-is_gone-r : goal.returns-then-is_gone-r
+returns-then-is_gone-r c =
+    sym (c.loop-j.invariant ∙ child-hit _ _ _ (omega (arith, c.loop-j-test.true, whole-count c.args.it.now)) (child-test _ _ _ c.record_at-r.result (at-is c.requires _ _ c.record_at-r.ensures) c.is_gone.ensures c.if-is_gone-r.true))
 
 pub loop-j-preserved : goal.loop-j-preserved
 loop-j-preserved c =
-    c.loop-j.invariant ∙ child-step _ _ _ (omega (arith, c.loop-j-test.true, whole-count c.args.it.now)) (child-test _ _ _ c.record_at-r.result (at-is c.requires _ _ c.record_at-r.ensures) c.if-r-p.false)
+    c.loop-j.invariant ∙ child-step _ _ _ (omega (arith, c.loop-j-test.true, whole-count c.args.it.now)) (child-test _ _ _ c.record_at-r.result (at-is c.requires _ _ c.record_at-r.ensures) c.is_gone.ensures c.if-is_gone-r.false)
 
 pub returns : goal.returns
 returns c = sym (c.loop-j.invariant ∙ child-end _ _ _ (omega (arith, c.loop-j-test.false, whole-count c.args.it.now)))

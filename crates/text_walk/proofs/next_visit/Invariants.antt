@@ -4,8 +4,5 @@ use Rattle.model.specs.Records.{records}
 use Rattle.text_form.specs.Writing.{next_from}
 use Rattle.text_walk.proofs.next_visit.Given as goal
 
-abbrev pub invariant-loop-e : goal.invariant-loop-e
-invariant-loop-e l = next_from (records l.it) l.d l.p 0 ≡ next_from (records l.it) l.e l.q l.after
-
-abbrev pub decreases-loop-e : goal.decreases-loop-e
-decreases-loop-e l = l.e
+abbrev pub invariant-loop-above : goal.invariant-loop-above
+invariant-loop-above l = next_from (records l.it) l.d l.p 0 ≡ next_from (records l.it) l.above l.q l.after
