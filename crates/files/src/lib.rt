@@ -73,7 +73,8 @@ pub fn load(rt: &impl Files, path: &[u8], buffer: &mut [u8]) -> Loaded
 }
 
 // Reads a file of at most max bytes into a buffer of one byte more or longer, and answers the length to lend: a file that
-// is too long is lent with the one byte too many, for the library to refuse. The bytes from max on stay as they were.
+// is too long is lent with the one byte too many, for the library to refuse. The bytes from max on stay as they were. (Path,
+// buffer and max are no struct, here and below: each file is lent a room of its own, once.)
 pub fn load_most(rt: &impl Files, path: &[u8], buffer: &mut [u8], max: usize) -> usize
     requires { max < length buffer.old }
     ensures counted { IsPrefixLen result buffer.new }

@@ -13,7 +13,8 @@ ghost use Rattle.text_form.specs.Writing.{list_of, listable, text_or};
 use model::Refusal;
 use text_form::WriteError;
 
-// Room for the longest listing of 1,024 lines.
+// Room for the longest listing of 1,024 lines. (The buffers are arrays: a Vec would bring an error of memory, which the
+// program doesn't have.)
 fn room() -> [u8; 1075200] {
     [0u8; 1075200]
 }

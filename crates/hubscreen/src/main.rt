@@ -13,7 +13,8 @@ fn answers_for(l: Loaded) -> usize
     if l.more { 0 } else { l.len / 4 }
 }
 
-// Room for 1,024 lines of 15 bytes, line one and the last.
+// Room for 1,024 lines of 15 bytes, line one and the last. (The buffers are arrays: a Vec would bring an error of memory,
+// which the program doesn't have.)
 fn room() -> [u8; 15408]
     ensures { 15408 ≡ length result }
 {

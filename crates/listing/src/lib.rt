@@ -1,4 +1,4 @@
-// The lines that hubscreen shows, put into a lent text.
+// The lines that hubscreen shows, put into a lent text. (The text and the place are two parameters, as in text_put.)
 #![tactic(auto)]
 
 ghost use Rattle.std.specs.Prelude.{◌≡◌, ◌+◌, ◌≤◌, length, [], ◌++◌};

@@ -126,7 +126,7 @@ impl fmt::Display for Cause {
     }
 }
 
-// A refusal: its cause, and the record it was found at, 0 where it is none's.
+// A refusal: its cause, and the record it was found at, 0 where it is none's. (No Option: the formats and the C interface have 0.)
 #[derive(Clone, Copy, PartialEq, Eq)]
 pub struct Refusal {
     pub cause: Cause,
@@ -143,7 +143,7 @@ impl From<Cause> for Refusal {
 }
 
 // What a climb finds above a record: the label of the nearest ambient and the number of the nearest boundary ambient, 0 for
-// none.
+// none. (No Options, as the formats and the C interface have it.)
 #[derive(Clone, Copy, PartialEq, Eq)]
 pub struct Above {
     pub label: u8,

@@ -1,2 +1,2 @@
--- What the inner contracts cite, and laws that the proofs cite.
+-- What the contracts cite, and laws that the proofs cite.
 pub mod Laws

@@ -1,4 +1,4 @@
--- What the inner contracts cite: refusal 2 of one record.
+-- What the contracts cite: refusal 2 of one record.
 use Rattle.std.specs.Prelude.{ℕ, Bool, ◌&&◌, List}
 use Rattle.model.specs.Validity.{gone_right, kind_right, spare_right}
 use Rattle.model.specs.declared.Rec.{Rec}

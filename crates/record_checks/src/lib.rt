@@ -10,7 +10,7 @@ ghost use Rattle.record_checks.specs.Reading.{form_right};
 
 use model::{Cause, Rec, Refusal};
 
-// Whether the spare bytes of record i are zero, byte by byte, as `edge_at`.
+// Whether the spare bytes of record i are zero, byte by byte, as `edge_at` and for the same reason.
 #[tactic(auto, unfolding(model::specs::Validity::spare_right))]
 fn spare_edge(it: &[u8], i: u16) -> bool
     ensures { result ≡ spare_right it.now i }
@@ -113,10 +113,7 @@ pub fn read_all(it: &[u8], n: u16) -> Result<(), Refusal>
     ensures { check_as result ≡ each_of (record_check it.now) 1 n }
 {
     for i in 0..n {
-        let Err(refusal) = read_record(it, i + 1) else {
-            continue;
-        };
-        return Err(refusal);
+        read_record(it, i + 1)?;
     }
     Ok(())
 }

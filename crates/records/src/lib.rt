@@ -139,8 +139,9 @@ pub fn put_record(it: &mut [u8], i: u16, r: Rec)
     it[at + 1] = r.label;
     it[at + 2] = r.name;
     it[at + 3] = 0;
-    it[at + 4] = (r.parent % 256) as u8;
-    it[at + 5] = (r.parent / 256) as u8;
+    let [low, high] = r.parent.to_le_bytes();
+    it[at + 4] = low;
+    it[at + 5] = high;
     it[at + 6] = 0;
     it[at + 7] = 0;
 }

@@ -13,12 +13,9 @@ mod results;
 // The row as offset and length: its bytes are those at the offset that the case gives. None where they are others.
 fn row(table: &[u8], label: u16, want: Reply) -> Option<Reply> {
     let (offset, len) = (want.values[0], want.values[1]);
-    let there = table.get(offset as usize..offset as usize + len as usize)?;
-    if calls::row(table, u8::try_from(label).unwrap_or(255)) == there {
-        Some(Reply::done([offset, len, 0, 0, 0, 0]))
-    } else {
-        None
-    }
+    let there = replay_buffers::place(table, offset as usize, len as usize);
+    let row = calls::row(table, u8::try_from(label).unwrap_or(255));
+    (there.len() == len as usize && row == there).then_some(Reply::done([offset, len, 0, 0, 0, 0]))
 }
 
 // Makes the call of a case; its answer. None is a row that is another part of the table, or a call that there isn't.
@@ -72,12 +69,10 @@ fn answer(case: Case, memory: &mut Memory) -> Option<Reply> {
     })
 }
 
-// Makes the call of a case: whether its answer and what it left are those wanted.
+// Makes the call of a case: whether its answer and what it left are those wanted. None counts as a refusal that no call has.
 fn is_as_wanted(case: Case, memory: &mut Memory) -> bool {
-    match answer(case, memory) {
-        Some(got) => memory.as_wanted(got, case.want),
-        None => false,
-    }
+    let got = answer(case, memory).unwrap_or(Reply::refused(255, 0));
+    memory.as_wanted(got, case.want)
 }
 
 // The calls of a file, up to its end, to what is no case, or to one that differs; at most a million. (What a call that
@@ -100,10 +95,7 @@ fn replay(file: &mut impl Read, tally: &mut Tally) -> Result<(), Fault> {
 // A file, with a memory of its own.
 fn play(rt: &(impl Files + Print), name: &[u8]) {
     let mut tally = Tally::default();
-    let ended = match replay_cases::open(rt, name) {
-        Ok(mut file) => replay(&mut file, &mut tally),
-        Err(fault) => Err(fault),
-    };
+    let ended = replay_cases::open(rt, name).and_then(|mut file| replay(&mut file, &mut tally));
     replay_cases::finish(rt, name, tally, ended);
 }
 

@@ -48,7 +48,7 @@ impl Values for Counts {
     }
 }
 
-// 1 exposed, 2 hinted, 3 sealed; and the label, 0 if sealed
+// 1 exposed, 2 hinted, 3 sealed; and the label, 0 if sealed. (packing has it for C: a replay stands on the calls alone.)
 fn code_and_label(v: Verdict) -> (u8, u8) {
     match v {
         Verdict::Exposed(k) => (1, k),

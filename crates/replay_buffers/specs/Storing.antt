@@ -1,5 +1,5 @@
 -- The buffers of a replay, and the bits of a file of cases. (The format is in simulator/README.md.)
-use Rattle.std.specs.Prelude.{suc, zero, ◌%◌, ◌*◌, ◌+◌, ◌/◌, ◌^◌, ℕ, get_or, nat_eq, replicate, set, take, Bool, ◌&&◌, List, [], ◌∷◌, Option, None, Some}
+use Rattle.std.specs.Prelude.{suc, zero, ◌%◌, ◌*◌, ◌+◌, ◌/◌, ◌^◌, ℕ, drop, get_or, nat_eq, replicate, set, take, Bool, ◌&&◌, List, [], ◌++◌, ◌∷◌, Option, None, Some}
 use Rattle.std.specs.Int.{from_le_bytes, w16, w32}
 use Rattle.std.specs.Cmp.Lexicographic.{pointwise}
 use Rattle.std.specs.Int.Bits.{bit_or, bit_xor}
@@ -39,35 +39,39 @@ buffer_of (suc (suc (suc (suc (suc (suc (suc k))))))) m = None
 unfoldable pub with_len : ℕ → Buffer → Buffer
 with_len n b = record { content = b.content; shadow = b.shadow; size = b.size; len = n }
 
--- the buffer whose content is to stay
+-- the buffer whose bytes are to stay
 unfoldable pub as_it_is : Buffer → Buffer
-as_it_is b = record { content = b.content; shadow = b.content; size = b.size; len = b.len }
+as_it_is b = record { content = b.content; shadow = take b.len b.content ++ drop b.len b.shadow; size = b.size; len = b.len }
+
+-- n bytes from a place on, or as many as there are
+unfoldable pub bytes_at : ℕ → ℕ → List ℕ → List ℕ
+bytes_at at n s = take n (drop at s)
 
 -- the bytes that a buffer has
 unfoldable pub content_of : Buffer → List ℕ
-content_of b = take b.len b.content
+content_of b = bytes_at 0 b.len b.content
 
 -- what they have to be after the next call
 unfoldable pub shadow_of : Buffer → List ℕ
-shadow_of b = take b.len b.shadow
+shadow_of b = bytes_at 0 b.len b.shadow
 
 -- "all contents must equal their shadows", and the bytes behind them, that no call is lent, theirs
 unfoldable pub buffer_right : Buffer → Bool
 buffer_right b = pointwise nat_eq b.content b.shadow
 
--- the answers agree, and each buffer has the bytes wanted
+-- the answers agree, and each buffer that a call may write has the bytes wanted
 unfoldable pub as_wanted : Reply → Reply → Memory → Bool
 as_wanted got want m =
     agreeing got want
-    && (buffer_right m.itinerary && (buffer_right m.policy && (buffer_right m.table && (buffer_right m.script && (buffer_right m.answers && buffer_right m.sheet)))))
+    && (buffer_right m.itinerary && (buffer_right m.table && (buffer_right m.answers && buffer_right m.sheet)))
 
 -- "number (one byte), record, the values": value k of an answer as a file has it
 unfoldable pub value : List ℕ → ℕ → ℕ
 value b k = from_le_bytes w32 (byte b (3 + 4 * k) ∷ byte b (3 + 4 * k + 1) ∷ byte b (3 + 4 * k + 2) ∷ byte b (3 + 4 * k + 3) ∷ [])
 
 -- the answer; "Numbers are little-endian"
-unfoldable pub stored : List ℕ → Reply
-stored b = record {
+unfoldable pub decoded : List ℕ → Reply
+decoded b = record {
   number = byte b 0;
   «record» = from_le_bytes w16 (byte b 1 ∷ byte b 2 ∷ []);
   values = value b 0 ∷ value b 1 ∷ value b 2 ∷ value b 3 ∷ value b 4 ∷ value b 5 ∷ [];

@@ -1,14 +1,15 @@
 // The buffers of a replay, each with its shadow, and the answers and bits of stored cases. (The format of a file of cases is in
 // simulator/README.md.)
-#![tactic(auto, using(model::proofs::Laws::Bit::one_shl), unfolding(crate::specs::Storing::empty_buffer, crate::specs::Storing::empty_memory, crate::specs::Storing::with_len, crate::specs::Storing::as_it_is, crate::specs::Storing::content_of, crate::specs::Storing::shadow_of, crate::specs::Storing::buffer_right, crate::specs::Storing::as_wanted, crate::specs::Storing::buffer_of, crate::specs::Storing::stored, crate::specs::Storing::value, crate::specs::Storing::turned, crate::specs::Storing::raised, replay_compare::specs::Comparing::agreeing))]
+#![tactic(auto, using(model::proofs::Laws::Bit::one_shl), unfolding(crate::specs::Storing::empty_buffer, crate::specs::Storing::empty_memory, crate::specs::Storing::with_len, crate::specs::Storing::as_it_is, crate::specs::Storing::content_of, crate::specs::Storing::shadow_of, crate::specs::Storing::buffer_right, crate::specs::Storing::as_wanted, crate::specs::Storing::buffer_of, crate::specs::Storing::bytes_at, crate::specs::Storing::decoded, crate::specs::Storing::value, crate::specs::Storing::turned, crate::specs::Storing::raised, replay_compare::specs::Comparing::agreeing))]
 
-ghost use Rattle.std.specs.Prelude.{◌≡◌, ◌<◌, ◌≤◌, option_map, take};
-ghost use Rattle.replay_buffers.specs.Storing.{as_it_is, as_wanted, buffer_of, buffer_right, content_of, empty_buffer, empty_memory, raised, shadow_of, stored, turned, value, with_len};
+ghost use Rattle.std.specs.Prelude.{◌++◌, ◌≡◌, ◌<◌, ◌≤◌, drop, option_map, take};
+ghost use Rattle.replay_buffers.specs.Storing.{as_it_is, as_wanted, buffer_of, buffer_right, bytes_at, content_of, decoded, empty_buffer, empty_memory, raised, shadow_of, turned, value, with_len};
 
 use replay_compare::Reply;
 
 // A buffer: its content, and its shadow, which is what the content has to be after the next call. Each is the first `len`
-// bytes of its array, at most `size`.
+// bytes of its array, at most `size`. (The memory is fixed: each array is as long as the longest content of a case, so that
+// how many bytes there are stands beside it.)
 #[derive(Drop)]
 pub struct Buffer {
     content: [u8; 8264],
@@ -49,14 +50,16 @@ impl Buffer {
     pub fn content(&self) -> &[u8]
         ensures { result.now ≡ content_of self.now }
     {
-        first(&self.content, self.len)
+        place(&self.content, 0, self.len)
     }
 
+    // The same, lent to a call that writes them. (A method for each of content and shadow: with the one of them named by a
+    // parameter, the contract would be by cases of it.)
     pub fn content_mut(&mut self) -> &mut [u8]
         ensures { result.now ≡ content_of self.old }
     {
         let n = self.len;
-        first_mut(&mut self.content, n)
+        place_mut(&mut self.content, 0, n)
     }
 
     // What they have to be after the next call.
@@ -64,14 +67,15 @@ impl Buffer {
         ensures { result.now ≡ shadow_of self.old }
     {
         let n = self.len;
-        first_mut(&mut self.shadow, n)
+        place_mut(&mut self.shadow, 0, n)
     }
 
     // Has its content stay as it is.
     pub fn want_content(&mut self)
         ensures { self.new ≡ as_it_is self.old }
     {
-        self.shadow = self.content;
+        let n = self.len;
+        copy(&self.content, &mut self.shadow, n);
     }
 
     // Whether it has the bytes that it has to have, and those behind them are as they were.
@@ -95,6 +99,29 @@ fn first_mut(s: &mut [u8], n: usize) -> &mut [u8]
 {
     let n = n.min(s.len());
     &mut s[..n]
+}
+
+// Copies the first n bytes, or all of them where n is greater.
+fn copy(from: &[u8; 8264], to: &mut [u8; 8264], n: usize)
+    ensures { to.new ≡ take n from.now ++ drop n to.old }
+{
+    let n = n.min(8264);
+    to[..n].copy_from_slice(&from[..n]);
+}
+
+// The n bytes from a place on, or as many as there are.
+pub fn place(s: &[u8], at: usize, n: usize) -> &[u8]
+    ensures { result.now ≡ bytes_at at n s.now }
+{
+    first(&s[at.min(s.len())..], n)
+}
+
+// The same of a buffer that is lent to change.
+pub fn place_mut(s: &mut [u8], at: usize, n: usize) -> &mut [u8]
+    ensures { result.now ≡ bytes_at at n s.old }
+{
+    let at = at.min(s.len());
+    first_mut(&mut s[at..], n)
 }
 
 // The buffers of the calls.
@@ -138,15 +165,14 @@ impl Memory {
         }
     }
 
-    // Whether a call gave the answer wanted and left the bytes wanted.
+    // Whether a call gave the answer wanted and left the bytes wanted. (No call can write policy or script: what a file wants
+    // of these isn't looked at.)
     pub fn as_wanted(&self, got: Reply, want: Reply) -> bool
         ensures { result ≡ as_wanted got want self.now }
     {
         got == want
             && self.itinerary.is_as_wanted()
-            && self.policy.is_as_wanted()
             && self.table.is_as_wanted()
-            && self.script.is_as_wanted()
             && self.answers.is_as_wanted()
             && self.sheet.is_as_wanted()
     }
@@ -154,7 +180,7 @@ impl Memory {
 
 // An answer as a file has it: number, record, values.
 pub fn reply_of(b: &[u8; 27]) -> Reply
-    ensures { result ≡ stored b.now }
+    ensures { result ≡ decoded b.now }
 {
     Reply {
         number: b[0],
@@ -179,7 +205,8 @@ fn value(b: &[u8; 27], k: usize) -> u32
     u32::from_le_bytes([b[at], b[at + 1], b[at + 2], b[at + 3]])
 }
 
-// Turns bit k, where there is one. (One function for this and the next, with the operation passed in, is no plainer.)
+// Turns bit k, where there is one. (Not one function with the next: it would promise whatever an operation does that is passed
+// in, and the two definitions be proved where it is called.)
 pub fn turn(buffer: &mut [u8], k: usize)
     ensures { buffer.new ≡ turned k buffer.old }
 {

@@ -53,7 +53,7 @@ impl TryFrom<u8> for Call {
     }
 }
 
-// A call with its arguments and what is wanted of it. None is a call that there isn't, whose answer differs.
+// A call with its arguments and what is wanted of it. None is a call that there isn't.
 #[derive(Clone, Copy)]
 pub struct Case {
     pub call: Option<Call>,
@@ -64,11 +64,8 @@ pub struct Case {
 
 // Fills the buffer with the file's next bytes.
 fn fill(file: &mut impl Read, buffer: &mut [u8]) -> Result<(), Fault> {
-    if files::read_full(file, buffer).len == buffer.len() {
-        Ok(())
-    } else {
-        Err(Fault)
-    }
+    let len = files::read_full(file, buffer).len;
+    (len == buffer.len()).then_some(()).ok_or(Fault)
 }
 
 // The file's next N bytes.
@@ -137,28 +134,21 @@ fn set_len(buffer: &mut Buffer, n: u32) -> Result<(), Fault> {
 // The number of a bit that the buffer has, which the file gives.
 fn next_bit(file: &mut impl Read, buffer: &Buffer) -> Result<usize, Fault> {
     let k = next_number(file)? as usize;
-    if k / 8 < buffer.content().len() {
-        Ok(k)
-    } else {
-        Err(Fault)
-    }
+    (k / 8 < buffer.content().len()).then_some(k).ok_or(Fault)
 }
 
-// Turns bits of a buffer and of its shadow, n of them, which the file lists.
-fn turn_bits(file: &mut impl Read, buffer: &mut Buffer, n: u32) -> Result<(), Fault> {
+// Changes bits of a buffer, n of them, which the file lists.
+fn bits<F: Fn(&mut Buffer, usize)>(
+    file: &mut impl Read,
+    buffer: &mut Buffer,
+    n: u32,
+    change: F,
+) -> Result<(), Fault>
+    requires { F.IsAlwaysCallable change }
+{
     for _ in 0..n {
         let k = next_bit(file, buffer)?;
-        replay_buffers::turn(buffer.content_mut(), k);
-        replay_buffers::turn(buffer.shadow_mut(), k);
-    }
-    Ok(())
-}
-
-// Sets bits of a shadow, n of them, which the file lists.
-fn want_bits(file: &mut impl Read, buffer: &mut Buffer, n: u32) -> Result<(), Fault> {
-    for _ in 0..n {
-        let k = next_bit(file, buffer)?;
-        replay_buffers::raise(buffer.shadow_mut(), k);
+        change(buffer, k);
     }
     Ok(())
 }
@@ -166,10 +156,11 @@ fn want_bits(file: &mut impl Read, buffer: &mut Buffer, n: u32) -> Result<(), Fa
 // Overwrites n bytes of a shadow, from the offset on that the file gives first.
 fn want_bytes(file: &mut impl Read, buffer: &mut Buffer, n: u32) -> Result<(), Fault> {
     let at = next_number(file)? as usize;
-    match buffer.shadow_mut().get_mut(at..at + n as usize) {
-        Some(part) => fill(file, part),
-        None => Err(Fault),
+    let part = replay_buffers::place_mut(buffer.shadow_mut(), at, n as usize);
+    if part.len() != n as usize {
+        return Err(Fault);
     }
+    fill(file, part)
 }
 
 // Changes a buffer.
@@ -187,13 +178,18 @@ fn prepare(file: &mut impl Read, change: Change, buffer: &mut Buffer, n: u32) ->
             buffer.shadow_mut().fill(0);
             Ok(())
         }
-        Change::TurnBits => turn_bits(file, buffer, n),
+        Change::TurnBits => bits(file, buffer, n, |b, k| {
+            replay_buffers::turn(b.content_mut(), k);
+            replay_buffers::turn(b.shadow_mut(), k);
+        }),
         Change::WantBytes => want_bytes(file, buffer, n),
         Change::WantZeros => {
             buffer.shadow_mut().fill(0);
             Ok(())
         }
-        Change::WantBits => want_bits(file, buffer, n),
+        Change::WantBits => bits(file, buffer, n, |b, k| {
+            replay_buffers::raise(b.shadow_mut(), k);
+        }),
     }
 }
 
@@ -210,10 +206,10 @@ fn wanted(file: &mut impl Read, values: u8) -> Result<Reply, Fault> {
 
 // Nothing stands behind the end of a file.
 fn at_end(file: &mut impl Read) -> Result<(), Fault> {
-    match next::<1>(file) {
-        Ok(_) => Err(Fault),
-        Err(_) => Ok(()),
+    if next::<1>(file).is_ok() {
+        return Err(Fault);
     }
+    Ok(())
 }
 
 // The file's next call, with the buffers set for it, or none at its end; after at most a million other commands.
@@ -224,10 +220,16 @@ pub fn next_case(file: &mut impl Read, memory: &mut Memory) -> Result<Option<Cas
                 at_end(file)?;
                 return Ok(None);
             }
-            Command::Prepare(change, k, n) => match memory.buffer(k) {
-                Some(buffer) => prepare(file, change, buffer, n)?,
-                None => return Err(Fault),
-            },
+            // Policy and script have no shadow to overwrite.
+            Command::Prepare(Change::WantBytes, 2 | 4, 1..) => return Err(Fault),
+            // A buffer that there isn't, up to 15, has no bytes.
+            Command::Prepare(change, 0 | 7..=15, n) => {
+                prepare(file, change, &mut Buffer::new(0), n)?
+            }
+            Command::Prepare(change, k, n) => {
+                let buffer = memory.buffer(k).ok_or(Fault)?;
+                prepare(file, change, buffer, n)?;
+            }
             Command::Make(call, values, x, y) => {
                 let want = wanted(file, values)?;
                 return Ok(Some(Case { call, x, y, want }));
@@ -239,17 +241,10 @@ pub fn next_case(file: &mut impl Read, memory: &mut Memory) -> Result<Option<Cas
 
 // Opens a file of cases; a fault where it can't be opened or begins otherwise.
 pub fn open<R: Files>(rt: &R, path: &[u8]) -> Result<R::File, Fault> {
-    let Ok(path) = str::from_utf8(path) else {
-        return Err(Fault);
-    };
-    let Ok(mut file) = File::open(rt, path) else {
-        return Err(Fault);
-    };
-    if next::<5>(&mut file)? == *b"case\x02" {
-        Ok(file)
-    } else {
-        Err(Fault)
-    }
+    let path = str::from_utf8(path).map_err(|_| Fault)?;
+    let mut file = File::open(rt, path).map_err(|_| Fault)?;
+    let begun = next::<5>(&mut file)? == *b"case\x02";
+    begun.then_some(file).ok_or(Fault)
 }
 
 // Writes a line with a file's name, the calls made and those that differ, and whether what followed in it was no case.

@@ -5,7 +5,8 @@
 ghost use Rattle.std.specs.Prelude.{◌≡◌};
 ghost use Rattle.replay_compare.specs.Comparing.{counting, more, returned, without};
 
-// An answer: number, the record at which (0 for none), and values.
+// An answer: number, the record at which (0 for none), and values. (The number is a byte and no cause: any byte may stand
+// there in a stored case.)
 #[derive(Clone, Copy, PartialEq, Eq)]
 pub struct Reply {
     pub number: u8,

@@ -1,6 +1,7 @@
 // The sequences of document 01: for each call its causes to refuse, in their order. A sequence starts with what every call
 // looks for first, so a cause that comes behind it goes into one place; it answers the itinerary, the policy and the table
-// that passed. (The runs' sequences answer no itinerary: they write it, and that of an answer would lend it.)
+// that passed. (The runs' sequences answer no itinerary: they write it, and that of an answer would lend it. Policy
+// and table are a tuple, since what goes on takes them apart again.)
 #![tactic(auto, unfolding(model::specs::Calls::showing, model::specs::Calls::running, model::specs::Calls::entry, model::specs::Calls::comparing, model::specs::Calls::checking, model::specs::Calls::making, model::specs::Calls::screening, model::specs::Numbers::check_as, model::specs::Numbers::number_of, model::specs::Refusals::and_then))]
 
 ghost use Rattle.std.specs.Prelude.{◌≡◌, IfOk};

@@ -55,7 +55,7 @@ fn nesting_holds(it: &Itinerary, policy: &Policy, table: &Table) -> bool
     true
 }
 
-// Whether the table holds.
+// Whether the table holds. (Policy and table are two parameters, as in the definitions.)
 pub fn holds(it: &Itinerary, policy: &Policy, table: &Table) -> bool
     ensures { result ≡ holds permit_all policy.now (records it.now) (parts (bits table.now)) }
 {

@@ -1,5 +1,7 @@
 // The rules of one row of I, by movers: each is a few word operations on two rows.
 // Row a of I is in words 2 a and 2 a + 1 of the table, row a of H in word 128 + a, S in word 192.
+// (A label is a number that each function asks to be below 64: a type of labels would be taken apart at each use as an index.
+// Words and movers are two parameters, since the ones are written while the others are read.)
 #![tactic(auto)]
 
 ghost use Rattle.std.specs.Prelude.{◌<◌};

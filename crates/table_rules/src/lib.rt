@@ -1,5 +1,6 @@
 // Whether the rules of an itinerary's capabilities hold in a table: by its movers, pair by pair; in and out on the table's
 // words, open by row inclusion on rows of the lent table.
+// (A label is a number that is asked to be below 64, and words and movers are two parameters, as in `table_rows`.)
 #![tactic(auto)]
 
 ghost use Rattle.std.specs.Prelude.{◌≡◌, ℕ, ◌<◌};

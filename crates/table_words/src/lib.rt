@@ -10,8 +10,6 @@ ghost use Rattle.table_words.specs.Words.{Stored};
 ghost use Rattle.std.specs.Iterator.{at_most};
 ghost use Rattle.table_words.specs.Ones.{TakesLowest};
 
-use tables::Table;
-
 // Bits and bytes of a word.
 pub const BITS: usize = 64;
 
@@ -36,24 +34,26 @@ pub type Kinds = [u64; KIND_WORDS];
 // For each label a set of labels.
 pub type Columns = [u64; BITS];
 
-// The bytes' bits as words.
-pub fn load(table: &Table, words: &mut Words)
-    ensures { bit_at 64 words.new ≡ bits table.now }
+// The bytes' bits as words, of as many bytes as the words have.
+pub fn load(bytes: &[u8], words: &mut [u64])
+    requires { length bytes.now ≡ length words.old * 8 }
+    ensures { bit_at 64 words.new ≡ bits bytes.now }
 {
-    let (chunks, _) = table.as_chunks::<BYTES>();
-    for i in 0..TABLE_WORDS {
+    let (chunks, _) = bytes.as_chunks::<BYTES>();
+    for i in 0..words.len() {
         words[i] = u64::from_le_bytes(chunks[i]);
     }
 }
 
 // The words' bits as bytes. A word's bytes go together: one store, compiled.
-pub fn store(words: &Words, table: &mut Table)
-    ensures same_bits { bits table.new ≡ bit_at 64 words.now }
-    ensures narrow { Narrow 8 table.new }
+pub fn store(words: &[u64], bytes: &mut [u8])
+    requires { length bytes.old ≡ length words.now * 8 }
+    ensures same_bits { bits bytes.new ≡ bit_at 64 words.now }
+    ensures narrow { Narrow 8 bytes.new }
 {
-    for i in 0..TABLE_WORDS {
+    for i in 0..words.len() {
         let at = BYTES * i;
-        table[at..at + BYTES].copy_from_slice(&words[i].to_le_bytes());
+        bytes[at..at + BYTES].copy_from_slice(&words[i].to_le_bytes());
     }
 }
 
@@ -98,8 +98,8 @@ pub fn scatter(base: usize, bits: u64, value: u64, words: &mut [u64])
 }
 
 // Transposes 64 words, `step` apart: bit t of word first + step * k goes to bit k of word t.
-pub fn transpose(words: &Words, first: usize, step: usize, columns: &mut Columns)
-    requires { first + step * 63 < 193 }
+pub fn transpose(words: &[u64], first: usize, step: usize, columns: &mut Columns)
+    requires { first + step * 63 < length words.now }
     ensures { Adds (Transposed words.now first step 64) (Transposed words.now first step 64) columns.old columns.new }
 {
     for k in 0..BITS {

@@ -1,4 +1,3 @@
 -- General laws on tests by loops and on sets that grow.
 pub mod Loops
 pub mod Grow
-pub mod Gates

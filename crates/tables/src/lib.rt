@@ -3,7 +3,7 @@
 
 ghost use Rattle.std.specs.Prelude.{◌≡◌, true, not, ◌+◌, ◌*◌, ◌/◌, ◌<◌, length, IfOk};
 ghost use Rattle.model.specs.Finite.{every};
-ghost use Rattle.model.specs.Numbers.{check_as};
+ghost use Rattle.model.specs.Numbers.{check_as, number_of};
 ghost use Rattle.model.specs.Refusals.{need};
 ghost use Rattle.model.specs.Tables.{bits, policy_right, table_right, table_sized};
 
@@ -55,15 +55,24 @@ pub fn policy_right(policy: &[u8]) -> bool
     policy[0] == 0 && policy.iter().all(|&class| class <= BOUNDARY)
 }
 
+// The array that bytes are where they are right, and the cause where they aren't.
+fn gate<const N: usize>(bytes: &[u8], right: bool, cause: Cause) -> Result<&[u8; N], Refusal>
+    requires { right ≡ true → length bytes.now ≡ N }
+    ensures checks { check_as result ≡ need right (number_of cause) 0 }
+    ensures same { IfOk result (λ passed. passed.now ≡ bytes.now) }
+{
+    match bytes.as_array() {
+        Some(sized) if right => Ok(sized),
+        _ => Err(cause.into()),
+    }
+}
+
 // Refusal 7; the policy that passes.
 pub fn policy_gate(policy: &[u8]) -> Result<&Policy, Refusal>
     ensures checks { check_as result ≡ need (policy_right policy.now) 7 0 }
     ensures same { IfOk result (λ passed. passed.now ≡ policy.now) }
 {
-    match policy.as_array() {
-        Some(sized) if policy_right(policy) => Ok(sized),
-        _ => Err(Cause::Policy.into()),
-    }
+    gate(policy, policy_right(policy), Cause::Policy)
 }
 
 // Whether the 64 bits from `first` on, `step` apart, are clear.
@@ -89,10 +98,7 @@ pub fn table_gate(table: &[u8]) -> Result<&Table, Refusal>
     ensures checks { check_as result ≡ need (table_right table.now) 8 0 }
     ensures same { IfOk result (λ passed. passed.now ≡ table.now) }
 {
-    match table.as_array() {
-        Some(sized) if table_right(table) => Ok(sized),
-        _ => Err(Cause::Table.into()),
-    }
+    gate(table, table_right(table), Cause::Table)
 }
 
 // Refusal 8 for a table to be made: its length alone.

@@ -1,11 +1,12 @@
-// Putting lines of the text form: a record's line of a text or of a listing, and its fields.
+// Putting lines of the text form: a record's line of a text or of a listing, and its fields. (The text and the place are two
+// parameters, as in text_put.)
 #![tactic(auto)]
 
 ghost use Rattle.std.specs.Prelude.{◌+◌, ◌≤◌, length, replicate};
 ghost use Rattle.model.specs.Records.{records};
 ghost use Rattle.text_put.specs.Puts.{Put};
 ghost use Rattle.text_form.specs.Lines.{entry};
-ghost use Rattle.text_form.specs.Parts.{Whole, fields, front, visit_line};
+ghost use Rattle.text_form.specs.Parts.{Whole, fields, numbered, visit_line};
 ghost use Rattle.text_form.specs.Writing.{mark};
 
 use text_form::{Line, Visit};
@@ -20,15 +21,15 @@ fn put_spaces(text: &mut [u8], at: usize, n: usize) -> usize
     end
 }
 
-// Puts a record's number and a space before its line of a listing.
-fn put_front(text: &mut [u8], at: usize, listed: bool, number: u16) -> usize
-    requires { at + length (front listed number) ≤ length text.old }
-    ensures { Put text.old at (front listed number) text.new result }
+// Puts the number that is shown before a line, and a space.
+fn put_front(text: &mut [u8], at: usize, number: Option<u16>) -> usize
+    requires { at + length (numbered number) ≤ length text.old }
+    ensures { Put text.old at (numbered number) text.new result }
 {
-    if listed {
-        return text_put::put_field(text, at, number, b' ');
+    match number {
+        Some(n) => text_put::put_field(text, at, n, b' '),
+        None => at,
     }
-    at
 }
 
 // Puts a line's kind, label and name.
@@ -36,7 +37,7 @@ fn put_fields(text: &mut [u8], at: usize, line: Line) -> usize
     requires { at + length (fields line) ≤ length text.old }
     ensures { Put text.old at (fields line) text.new result }
 {
-    let label = text_put::put(text, at, text_form::kind_word(line.capability));
+    let label = text_put::put(text, at, text_form::line_word(line.kind));
     let name = text_put::put_field(text, label, line.label as u16, b' ');
     text_put::put_number(text, name, line.name as u16)
 }
@@ -53,21 +54,14 @@ fn put_mark(text: &mut [u8], at: usize, hidden: bool) -> usize
 }
 
 // Puts a line.
-fn put_entry(
-    text: &mut [u8],
-    at: usize,
-    listed: bool,
-    number: u16,
-    hidden: bool,
-    line: Line,
-) -> usize
+fn put_entry(text: &mut [u8], at: usize, number: Option<u16>, hidden: bool, line: Line) -> usize
     requires shallow { line.depth ≤ 1024 }
-    requires fits { at + length (entry (front listed number) (mark hidden) line) ≤ length text.old }
-    ensures { Put text.old at (entry (front listed number) (mark hidden) line) text.new result }
+    requires fits { at + length (entry (numbered number) (mark hidden) line) ≤ length text.old }
+    ensures { Put text.old at (entry (numbered number) (mark hidden) line) text.new result }
 {
     let depth = line.depth;
     let first = put_spaces(text, at, 2 * depth);
-    let word = put_front(text, first, listed, number);
+    let word = put_front(text, first, number);
     let back = put_fields(text, word, line);
     let end = put_mark(text, back, hidden);
     text_put::put_byte(text, end, b'\n')
@@ -96,9 +90,10 @@ pub fn put_visit(
     let s = records::record_at(sheet, number);
     let line = Line {
         depth: v.depth,
-        capability: r.capability(),
+        kind: text_form::kind_of_record(r),
         label: r.label,
         name: r.name,
     };
-    put_entry(text, at, listed, number, listed & s.is_gone(), line)
+    let shown = listed.then_some(number);
+    put_entry(text, at, shown, listed & s.is_gone(), line)
 }

@@ -1,10 +1,13 @@
 -- The text form of an itinerary: one line a record, indented by two spaces for each record above it.
-use Rattle.std.specs.Prelude.{◌*◌, ℕ, replicate, List, [], ◌++◌, ◌∷◌}
+use Rattle.std.specs.Prelude.{◌*◌, ℕ, eqb, replicate, Bool, false, true, List, [], ◌++◌, ◌∷◌}
 use Rattle.std.specs.Prelude.{Option, None, Some}
 use Rattle.model.specs.Listing.{digits_in, field}
 use Rattle.model.specs.declared.Capability.{Capability}
 use Rattle.model.specs.declared.Capability.TheVariants.{In as cap-in, Open as cap-open, Out as cap-out}
+use Rattle.model.specs.Records.{capability}
 use Rattle.model.specs.Scripts.{kind_of}
+use Rattle.text_form.specs.declared.Kind.{Kind}
+use Rattle.text_form.specs.declared.Kind.TheVariants.{Acts, Ambient}
 use Rattle.text_form.specs.declared.Line.{Line}
 
 -- "ambient", "in", "out", "open", each with the space after it
@@ -24,17 +27,37 @@ open_word = 111 ∷ 112 ∷ 101 ∷ 110 ∷ 32 ∷ []
 unfoldable pub hidden_word : List ℕ
 hidden_word = 32 ∷ 104 ∷ 105 ∷ 100 ∷ 100 ∷ 101 ∷ 110 ∷ []
 
--- the word of a kind: which capability, or none for an ambient
-unfoldable pub kind_word : Option Capability → List ℕ
-kind_word None = ambient_word
-kind_word (Some cap-in) = in_word
-kind_word (Some cap-out) = out_word
-kind_word (Some cap-open) = open_word
+-- the word of a kind
+unfoldable pub kind_word : Kind → List ℕ
+kind_word Ambient = ambient_word
+kind_word (Acts cap-in) = in_word
+kind_word (Acts cap-out) = out_word
+kind_word (Acts cap-open) = open_word
+
+-- the word in a line, none where the record has no kind
+unfoldable pub line_word : Option Kind → List ℕ
+line_word None = []
+line_word (Some k) = kind_word k
+
+-- a kind is an ambient
+unfoldable pub ambient_kind : Kind → Bool
+ambient_kind Ambient = true
+ambient_kind (Acts k) = false
 
 -- a kind's number in a record: "1 ambient, 2 in, 3 out, 4 open"
-unfoldable pub kind_byte : Option Capability → ℕ
-kind_byte None = 1
-kind_byte (Some k) = kind_of k
+unfoldable pub kind_byte : Option Kind → ℕ
+kind_byte None = 0
+kind_byte (Some Ambient) = 1
+kind_byte (Some (Acts k)) = kind_of k
+
+-- the kind of a capability's record
+unfoldable pub acting : Option Capability → Option Kind
+acting None = None
+acting (Some k) = Some (Acts k)
+
+-- the kind that a record's number stands for; 0 and what is over 4 stand for none
+unfoldable pub kind_at : ℕ → Option Kind
+kind_at n = elim (eqb n 1) [ true ↦ Some Ambient | false ↦ acting (capability n) ]
 
 -- two spaces for each record above
 unfoldable pub indent : ℕ → List ℕ
@@ -42,7 +65,7 @@ indent d = replicate (2 * d) 32
 
 -- a line: the indentation, front, the kind's word, the label, the name, back, and the end of the line
 unfoldable pub entry : List ℕ → List ℕ → Line → List ℕ
-entry front back l = indent l.depth ++ (front ++ (kind_word l.capability ++ field l.label (digits_in 5 l.name ++ (back ++ (10 ∷ [])))))
+entry front back l = indent l.depth ++ (front ++ (line_word l.kind ++ field l.label (digits_in 5 l.name ++ (back ++ (10 ∷ [])))))
 
 -- a line of the text form
 unfoldable pub line_bytes : Line → List ℕ

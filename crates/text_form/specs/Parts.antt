@@ -1,10 +1,11 @@
 -- Parts of reading and of writing: what the functions inside a reader or writer promise and ask for.
 use Rattle.std.specs.Prelude.{◌%◌, ◌*◌, ◌+◌, ◌<◌, ◌≤◌, ℕ, eqb, leb, length, Bool, ◌&&◌, false, true, List, [], ◌++◌, ◌≡◌}
+use Rattle.std.specs.Prelude.{Option, None, Some}
 use Rattle.records.specs.Written.{written}
 use Rattle.model.specs.Listing.{digits_in, field}
 use Rattle.model.specs.Records.{at, records}
 use Rattle.model.specs.declared.Rec.{Rec}
-use Rattle.text_form.specs.Lines.{entry, kind_word}
+use Rattle.text_form.specs.Lines.{entry, line_word}
 use Rattle.text_form.specs.Reading.{Scan, placed}
 use Rattle.text_form.specs.Writing.{TextWritten, fits, line_at, lines_of, mark, over_if, walk}
 use Rattle.text_form.specs.declared.Line.{Line}
@@ -25,9 +26,14 @@ unfoldable pub front : Bool → ℕ → List ℕ
 front true number = field number []
 front false number = []
 
+-- a number and a space, where there is one
+unfoldable pub numbered : Option ℕ → List ℕ
+numbered None = []
+numbered (Some n) = field n []
+
 -- a line's kind, label and name
 unfoldable pub fields : Line → List ℕ
-fields l = kind_word l.capability ++ field l.label (digits_in 5 l.name)
+fields l = line_word l.kind ++ field l.label (digits_in 5 l.name)
 
 -- the line of a record, in a listing or not; hidden where it is gone among those shown
 unfoldable pub visit_line : Bool → List Rec → List Rec → Visit → List ℕ

@@ -1,17 +1,18 @@
 -- Reading the text form: a line, all lines, and the records that they are.
-use Rattle.std.specs.Prelude.{◌*◌, ◌+◌, ◌-◌, ◌/◌, ◌%◌, min, suc, zero, ℕ, eqb, leb, drop, is_none, length, replicate, set, get_or, Bool, ◌&&◌, false, true, List, [], ◌∷◌}
+use Rattle.std.specs.Prelude.{◌*◌, ◌+◌, ◌-◌, ◌/◌, ◌%◌, min, suc, zero, ℕ, eqb, leb, drop, length, replicate, set, get_or, Bool, ◌&&◌, false, true, List, [], ◌∷◌}
 use Rattle.std.specs.Prelude.{Option, None, Some, Result, Ok, Err}
 use Rattle.model.specs.Records.{byte, encode}
-use Rattle.model.specs.declared.Capability.{Capability}
 use Rattle.model.specs.declared.Capability.TheVariants.{In as cap-in, Open as cap-open, Out as cap-out}
 use Rattle.model.specs.Validity.{label_in}
 use Rattle.model.specs.declared.Rec.{Rec}
 use Rattle.text_put.specs.Puts.{over}
-use Rattle.text_form.specs.Lines.{kind_byte, kind_word}
+use Rattle.text_form.specs.Lines.{ambient_kind, kind_byte, kind_word}
 use Rattle.text_form.specs.declared.Cause.{Cause}
 use Rattle.text_form.specs.declared.Cause.TheVariants as cause
 use Rattle.text_form.specs.declared.Decimal.{Decimal}
 use Rattle.text_form.specs.declared.Fault.{Fault}
+use Rattle.text_form.specs.declared.Kind.{Kind}
+use Rattle.text_form.specs.declared.Kind.TheVariants.{Acts, Ambient}
 use Rattle.text_form.specs.declared.Line.{Line}
 use Rattle.text_form.specs.declared.LineRead.{LineRead}
 
@@ -104,16 +105,16 @@ ended l [] = Err cause.NoEnd
 ended l (c ∷ s) = demand (eqb c 10) (cause_at cause.AfterName (c ∷ s)) (Ok (record { line = l; left = length s }))
 
 -- the name, after the depth, kind and label
-unfoldable pub named : ℕ → Option Capability → ℕ → List ℕ → Result LineRead Cause
+unfoldable pub named : ℕ → Kind → ℕ → List ℕ → Result LineRead Cause
 named d k label s =
     demand (eqb (byte s 0) 32) (cause_at cause.NoName s)
     (with_number (number_read cause.NoName (drop 1 s)) (λ n. demand (leb n.value 63) cause.WrongName
-    (ended (record { depth = d; capability = k; label = label; name = n.value }) (drop n.width (drop 1 s)))))
+    (ended (record { depth = d; kind = Some k; label = label; name = n.value }) (drop n.width (drop 1 s)))))
 
 -- the label, after the depth and kind
-unfoldable pub labelled : ℕ → Option Capability → List ℕ → Result LineRead Cause
+unfoldable pub labelled : ℕ → Kind → List ℕ → Result LineRead Cause
 labelled d k s =
-    with_number (number_read cause.NoLabel s) (λ n. demand (label_in (is_none k) n.value) cause.WrongLabel
+    with_number (number_read cause.NoLabel s) (λ n. demand (label_in (ambient_kind k) n.value) cause.WrongLabel
     (named d k n.value (drop n.width s)))
 
 -- no kind's word: what is wrong is told where the visible bytes end
@@ -121,13 +122,13 @@ unfoldable pub unworded : List ℕ → Result LineRead Cause
 unworded s = Err (cause_at cause.UnknownKind (drop (shown s) s))
 
 -- the kind, after the depth: the first of the kinds given whose word the bytes start with
-unfoldable pub worded_by : List (Option Capability) → ℕ → List ℕ → Result LineRead Cause
+unfoldable pub worded_by : List Kind → ℕ → List ℕ → Result LineRead Cause
 worded_by [] d s = unworded s
 worded_by (k ∷ ks) d s = elim (starts (kind_word k) s) [ true ↦ labelled d k (drop (length (kind_word k)) s) | false ↦ worded_by ks d s ]
 
 -- all kinds
-unfoldable pub kinds : List (Option Capability)
-kinds = None ∷ Some cap-in ∷ Some cap-out ∷ Some cap-open ∷ []
+unfoldable pub kinds : List Kind
+kinds = Ambient ∷ Acts cap-in ∷ Acts cap-out ∷ Acts cap-open ∷ []
 
 -- the kind, after the depth
 unfoldable pub worded : ℕ → List ℕ → Result LineRead Cause
@@ -171,7 +172,7 @@ scan room s = scan_from room 0 s
 
 -- the record of a line, under a parent
 unfoldable pub record_of : Line → ℕ → Rec
-record_of l p = record { kind = kind_byte l.capability; label = l.label; name = l.name; parent = p }
+record_of l p = record { kind = kind_byte l.kind; label = l.label; name = l.name; parent = p }
 
 -- the records of lines numbered from k on; entry d of above is the parent of a line of depth d: the nearest line before
 -- with one step less, 0 for depth 0

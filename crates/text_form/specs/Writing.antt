@@ -5,13 +5,13 @@ use Rattle.model.specs.Climbing.{hidden}
 use Rattle.model.specs.Finite.{lowest, unequal}
 use Rattle.model.specs.Listing.{field}
 use Rattle.model.specs.Numbers.{number_of}
-use Rattle.model.specs.Records.{at, capability, parent_of, records}
+use Rattle.model.specs.Records.{at, parent_of, records}
 use Rattle.model.specs.Refusals.{Check, and_then, content, need, pass, refuse}
 use Rattle.model.specs.Tables.{suspects, table_right}
 use Rattle.model.specs.Validity.{validity}
 use Rattle.model.specs.declared.Rec.{Rec}
 use Rattle.text_put.specs.Puts.{over}
-use Rattle.text_form.specs.Lines.{entry, hidden_word, render}
+use Rattle.text_form.specs.Lines.{entry, hidden_word, kind_at, render}
 use Rattle.text_form.specs.declared.Line.{Line}
 use Rattle.text_form.specs.declared.Visit.{Visit}
 use Rattle.text_form.specs.declared.WriteError.{WriteError}
@@ -47,7 +47,7 @@ walk its = walk_from its (length its) 0 0
 
 -- the line of a record met at a depth
 unfoldable pub line_at : List Rec → Visit → Line
-line_at its v = let r = at its v.number in record { depth = v.depth; capability = capability r.kind; label = r.label; name = r.name }
+line_at its v = let r = at its v.number in record { depth = v.depth; kind = kind_at r.kind; label = r.label; name = r.name }
 
 -- the text form of records
 unfoldable pub text_of : List Rec → List ℕ

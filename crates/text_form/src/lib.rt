@@ -3,46 +3,89 @@
 #![tactic(auto)]
 
 ghost use Rattle.std.specs.Prelude.{◌≡◌};
-ghost use Rattle.text_form.specs.Lines.{kind_byte, kind_word};
+ghost use Rattle.text_form.specs.Lines.{ambient_kind, kind_at, kind_byte, kind_word, line_word};
 ghost use Rattle.text_form.specs.declared.WriteError.TheVariants.{Refused};
 
-use model::{Capability, Refusal};
+use model::{Capability, Rec, Refusal};
 use std::fmt;
 
-// A line of the text form: how far it is indented, and the record's kind, label and name. Its kind is a capability, or none for
-// an ambient.
+// What stands on a line: an ambient, or a capability.
+#[derive(Clone, Copy)]
+pub enum Kind {
+    Ambient,
+    Acts(Capability),
+}
+
+impl Kind {
+    // Whether it is an ambient.
+    #[tactic(auto, unfolding(crate::specs::Lines::ambient_kind))]
+    pub fn is_ambient(self) -> bool
+        ensures { result ≡ ambient_kind self }
+    {
+        match self {
+            Kind::Ambient => true,
+            Kind::Acts(_) => false,
+        }
+    }
+}
+
+// A line of the text form: how far it is indented, and the record's kind, label and name. A record that is neither an ambient
+// nor a capability has no kind: none such is read, and a valid itinerary shows none.
 #[derive(Clone, Copy)]
 pub struct Line {
     pub depth: usize,
-    pub capability: Option<Capability>,
+    pub kind: Option<Kind>,
     pub label: u8,
     pub name: u8,
 }
 
 // The word of a kind, with the space after it.
 #[tactic(auto, unfolding(crate::specs::Lines::kind_word, crate::specs::Lines::ambient_word, crate::specs::Lines::in_word, crate::specs::Lines::out_word, crate::specs::Lines::open_word))]
-pub fn kind_word(kind: Option<Capability>) -> &'static [u8]
+pub fn kind_word(kind: Kind) -> &'static [u8]
     ensures { result.now ≡ kind_word kind }
 {
     match kind {
-        None => b"ambient ",
-        Some(Capability::In) => b"in ",
-        Some(Capability::Out) => b"out ",
-        Some(Capability::Open) => b"open ",
+        Kind::Ambient => b"ambient ",
+        Kind::Acts(Capability::In) => b"in ",
+        Kind::Acts(Capability::Out) => b"out ",
+        Kind::Acts(Capability::Open) => b"open ",
+    }
+}
+
+// The word in a line, none where the record has no kind.
+#[tactic(auto, unfolding(crate::specs::Lines::line_word))]
+pub fn line_word(kind: Option<Kind>) -> &'static [u8]
+    ensures { result.now ≡ line_word kind }
+{
+    match kind {
+        None => b"",
+        Some(kind) => kind_word(kind),
     }
 }
 
 // The number of a kind in a record.
 #[tactic(auto, unfolding(crate::specs::Lines::kind_byte, model::specs::Scripts::kind_of))]
-pub fn kind_byte(kind: Option<Capability>) -> u8
+pub fn kind_byte(kind: Option<Kind>) -> u8
     ensures { result ≡ kind_byte kind }
 {
     match kind {
-        None => 1,
-        Some(Capability::In) => 2,
-        Some(Capability::Out) => 3,
-        Some(Capability::Open) => 4,
+        None => 0,
+        Some(Kind::Ambient) => 1,
+        Some(Kind::Acts(Capability::In)) => 2,
+        Some(Kind::Acts(Capability::Out)) => 3,
+        Some(Kind::Acts(Capability::Open)) => 4,
     }
+}
+
+// The kind of a record.
+#[tactic(auto, unfolding(crate::specs::Lines::acting, crate::specs::Lines::kind_at, model::specs::Records::is_ambient))]
+pub fn kind_of_record(r: Rec) -> Option<Kind>
+    ensures { result ≡ kind_at r.kind }
+{
+    if r.is_ambient() {
+        return Some(Kind::Ambient);
+    }
+    r.capability().map(Kind::Acts)
 }
 
 // A decimal number and how many bytes it takes.

@@ -5,7 +5,7 @@ ghost use Rattle.std.specs.Prelude.{◌≡◌};
 ghost use Rattle.text_form.specs.Reading.{ended, indent_cause, labelled, line_read, named, unworded, worded};
 
 use model::Capability;
-use text_form::{Cause, Line, LineRead};
+use text_form::{Cause, Kind, Line, LineRead};
 
 // The end of a line.
 #[tactic(auto, unfolding(text_form::specs::Reading::ended, text_form::specs::Reading::demand))]
@@ -26,13 +26,8 @@ fn ended(line: Line, s: &[u8]) -> Result<LineRead, Cause>
 
 // The name and the end of a line.
 #[tactic(auto, unfolding(text_form::specs::Reading::named, text_form::specs::Reading::demand, text_form::specs::Reading::with_number))]
-fn named(
-    depth: usize,
-    capability: Option<Capability>,
-    label: u8,
-    s: &[u8],
-) -> Result<LineRead, Cause>
-    ensures { result ≡ named depth capability label s.now }
+fn named(depth: usize, kind: Kind, label: u8, s: &[u8]) -> Result<LineRead, Cause>
+    ensures { result ≡ named depth kind label s.now }
 {
     if text_numeral::byte_at(s, 0) != b' ' {
         return Err(text_numeral::cause_at(Cause::NoName, s));
@@ -44,7 +39,7 @@ fn named(
     }
     let line = Line {
         depth,
-        capability,
+        kind: Some(kind),
         label,
         name: name.value as u8,
     };
@@ -53,14 +48,14 @@ fn named(
 
 // The label and what follows it.
 #[tactic(auto, unfolding(text_form::specs::Reading::labelled, text_form::specs::Reading::demand, text_form::specs::Reading::with_number))]
-fn labelled(depth: usize, capability: Option<Capability>, s: &[u8]) -> Result<LineRead, Cause>
-    ensures { result ≡ labelled depth capability s.now }
+fn labelled(depth: usize, kind: Kind, s: &[u8]) -> Result<LineRead, Cause>
+    ensures { result ≡ labelled depth kind s.now }
 {
     let label = text_numeral::number(Cause::NoLabel, s)?;
-    if !record_checks::label_in(capability.is_none(), label.value) {
+    if !record_checks::label_in(kind.is_ambient(), label.value) {
         return Err(Cause::WrongLabel);
     }
-    named(depth, capability, label.value as u8, &s[label.width..])
+    named(depth, kind, label.value as u8, &s[label.width..])
 }
 
 // No kind's word: the cause by where the visible bytes end.
@@ -77,14 +72,14 @@ fn worded(depth: usize, s: &[u8]) -> Result<LineRead, Cause>
     ensures { result ≡ worded depth s.now }
 {
     let kinds = [
-        None,
-        Some(Capability::In),
-        Some(Capability::Out),
-        Some(Capability::Open),
+        Kind::Ambient,
+        Kind::Acts(Capability::In),
+        Kind::Acts(Capability::Out),
+        Kind::Acts(Capability::Open),
     ];
-    for capability in kinds {
-        if let Some(rest) = s.strip_prefix(text_form::kind_word(capability)) {
-            return labelled(depth, capability, rest);
+    for kind in kinds {
+        if let Some(rest) = s.strip_prefix(text_form::kind_word(kind)) {
+            return labelled(depth, kind, rest);
         }
     }
     unworded(s)

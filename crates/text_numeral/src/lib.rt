@@ -3,7 +3,7 @@
 
 ghost use Rattle.std.specs.Prelude.{◌≡◌};
 ghost use Rattle.model.specs.Records.{byte};
-ghost use Rattle.text_form.specs.Reading.{cause_at, digit, digits_cause, number_read, numeral, numeral_of, shown, spaces, visible};
+ghost use Rattle.text_form.specs.Reading.{cause_at, digits_cause, number_read, numeral, numeral_of, shown, spaces};
 
 use text_form::{Cause, Decimal};
 
@@ -14,19 +14,13 @@ pub fn spaces(s: &[u8]) -> usize
     s.iter().position(|&c| c != b' ').unwrap_or(s.len())
 }
 
-// Whether a byte shows as a character.
-#[tactic(auto, unfolding(text_form::specs::Reading::visible))]
-fn visible(c: u8) -> bool
-    ensures { result ≡ visible c }
-{
-    (33 <= c) & (c <= 126)
-}
-
 // How many visible bytes the bytes start with.
 pub fn shown(s: &[u8]) -> usize
     ensures { result ≡ shown s.now }
 {
-    s.iter().position(|&c| !visible(c)).unwrap_or(s.len())
+    s.iter()
+        .position(|c| !c.is_ascii_graphic())
+        .unwrap_or(s.len())
 }
 
 // Byte j, 0 past the end.
@@ -49,31 +43,24 @@ pub fn cause_at(given: Cause, s: &[u8]) -> Cause
     }
 }
 
-// Whether a byte is one of 0 to 9.
-#[tactic(auto, unfolding(text_form::specs::Reading::digit))]
-fn digit(c: u8) -> bool
-    ensures { result ≡ digit c }
-{
-    (b'0' <= c) & (c <= b'9')
-}
-
 // The number whose first three bytes are these.
+// Read by hand, since the grammar has no leading zero and three digits at most.
 #[tactic(auto, unfolding(text_form::specs::Reading::numeral_of, text_form::specs::Reading::digit))]
 fn numeral_of(a: u8, b: u8, c: u8) -> Option<Decimal>
     ensures { result ≡ numeral_of a b c }
 {
-    if !digit(a) {
+    if !a.is_ascii_digit() {
         return None;
     }
     if a == b'0' {
         return Some(Decimal { value: 0, width: 1 });
     }
     let x = (a - b'0') as u16;
-    if !digit(b) {
+    if !b.is_ascii_digit() {
         return Some(Decimal { value: x, width: 1 });
     }
     let y = (b - b'0') as u16;
-    if !digit(c) {
+    if !c.is_ascii_digit() {
         return Some(Decimal {
             value: 10 * x + y,
             width: 2,
@@ -88,7 +75,7 @@ fn numeral_of(a: u8, b: u8, c: u8) -> Option<Decimal>
 
 // The number that the bytes start with.
 #[tactic(auto, unfolding(text_form::specs::Reading::numeral))]
-fn numeral(s: &[u8]) -> Option<Decimal>
+pub fn numeral(s: &[u8]) -> Option<Decimal>
     ensures { result ≡ numeral s.now }
 {
     numeral_of(byte_at(s, 0), byte_at(s, 1), byte_at(s, 2))
@@ -107,14 +94,14 @@ fn digits_cause(width: usize) -> Cause
 }
 
 // The number that the bytes start with, or what is wrong with it: it is missing, or digits stand after it.
-#[tactic(auto, unfolding(text_form::specs::Reading::number_read, text_form::specs::Reading::number_alone))]
+#[tactic(auto, unfolding(text_form::specs::Reading::number_read, text_form::specs::Reading::number_alone, text_form::specs::Reading::digit))]
 pub fn number(missing: Cause, s: &[u8]) -> Result<Decimal, Cause>
     ensures { result ≡ number_read missing s.now }
 {
     let Some(n) = numeral(s) else {
         return Err(cause_at(missing, s));
     };
-    if digit(byte_at(s, n.width)) {
+    if byte_at(s, n.width).is_ascii_digit() {
         return Err(digits_cause(n.width));
     }
     Ok(n)

@@ -26,6 +26,7 @@ pub fn put_byte(text: &mut [u8], at: usize, b: u8) -> usize
 }
 
 // Puts a number's digits.
+// Printed by hand, since the contract fixes the bytes (`digits_in`).
 pub fn put_number(text: &mut [u8], at: usize, n: u16) -> usize
     requires { at + length (digits_in 5 n) ≤ length text.old }
     ensures { Put text.old at (digits_in 5 n) text.new result }

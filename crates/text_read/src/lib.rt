@@ -18,7 +18,7 @@ fn place(it: &mut [u8], above: &mut [u16], k: u16, line: Line)
 {
     let depth = line.depth;
     let r = Rec {
-        kind: text_form::kind_byte(line.capability),
+        kind: text_form::kind_byte(line.kind),
         label: line.label,
         name: line.name,
         parent: above[depth],
@@ -40,20 +40,19 @@ fn scan(text: &[u8], it: &mut [u8], room: u16) -> Result<u16, Fault>
     let mut k: u16 = 0;
     let mut deepest: usize = 0;
     while at < text.len() {
+        let line = k + 1;
         if room <= k {
-            return Err(Fault {
-                line: k + 1,
-                cause: Cause::TooMany,
-            });
+            let cause = Cause::TooMany;
+            return Err(Fault { line, cause });
         }
-        let got = match text_line::read_line(&text[at..], deepest) {
-            Ok(got) => got,
-            Err(cause) => return Err(Fault { line: k + 1, cause }),
-        };
+        let got = text_line::read_line(&text[at..], deepest).map_err(|cause| Fault {
+            line,
+            cause,
+        })?;
         place(it, &mut above, k, got.line);
         at = text.len() - got.left;
         deepest = got.line.depth + 1;
-        k += 1;
+        k = line;
     }
     Ok(k)
 }

@@ -25,7 +25,7 @@ fn child_over(it: &[u8], p: u16, after: u16) -> Option<u16>
 }
 
 // The record to visit after record p, whose children stand at depth d.
-fn next_visit(it: &[u8], p: u16, d: usize) -> Option<Visit>
+pub fn next_visit(it: &[u8], p: u16, d: usize) -> Option<Visit>
     requires { Whole it.now }
     ensures { result ≡ next_from (records it.now) d p 0 }
 {

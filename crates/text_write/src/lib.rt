@@ -1,4 +1,5 @@
-// Writing the text form of an itinerary, and listing an itinerary with what the sheet hides marked.
+// Writing the text form of an itinerary, and listing an itinerary with what the sheet hides marked. (`Whole` is a clause, of
+// the itinerary and of the sheet, since a call leaves a sheet as bytes, and no type that carries it.)
 #![tactic(auto)]
 
 ghost use Rattle.std.specs.Prelude.{◌≡◌, ◌≤◌, length};
@@ -11,6 +12,7 @@ use text_form::WriteError;
 use text_walk::Walk;
 
 // How long the text of an itinerary is, line by line.
+// A loop beside that of `fill`: this one puts each line into one line's room and sums the lengths, that one moves the place on.
 fn measure(it: &[u8], sheet: &[u8], listed: bool) -> usize
     requires whole { Whole it.now }
     requires sheet { Whole sheet.now }

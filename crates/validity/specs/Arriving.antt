@@ -1,4 +1,4 @@
--- What the inner contracts cite: a view that finds nothing but that the environment is reached.
+-- What the contracts cite: a view that finds nothing but that the environment is reached.
 use Rattle.model.specs.Climbing.{View}
 
 abbrev pub arriving : View (Unit {0})

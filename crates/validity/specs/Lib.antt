@@ -1,3 +1,3 @@
--- What the inner contracts cite, and the laws that the proofs cite.
+-- What the contracts cite, and the laws that the proofs cite.
 pub mod Arriving
 pub mod Laws

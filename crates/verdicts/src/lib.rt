@@ -48,7 +48,7 @@ fn lowest<F: Fn(usize) -> bool>(passes: F) -> Option<u8>
     None
 }
 
-// The high labels of the policy.
+// The high labels of the policy. (A loop: std's map would move the policy into an iterator first.)
 fn highs(policy: &Policy) -> Labels
     ensures { Highs policy.now (marked result) }
 {

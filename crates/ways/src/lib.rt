@@ -23,14 +23,14 @@ pub trait Finds {
 
 // The numbers of a way, from the record it starts at upwards, how many there are, and the number above the last.
 #[derive(Clone, Copy)]
-struct Way {
+pub struct Way {
     pub numbers: [u16; 32],
     pub len: usize,
     pub top: u16,
 }
 
 // The start of a way from record i: itself, and its parent above it.
-fn start(it: &[u8], i: u16) -> Way
+pub fn start(it: &[u8], i: u16) -> Way
     requires parented { Parented it.now }
     requires inside { i ≤ count it.now }
     requires some { 1 ≤ i }
@@ -47,7 +47,7 @@ fn start(it: &[u8], i: u16) -> Way
 
 // The rest of the way, up to below a number that has its note, or of 32 numbers. (It grows where it lies: a copy for each call
 // of a climb is deeper in the stack.)
-fn extend<T>(it: &[u8], notes: &[Option<T>], way: &mut Way, i: u16)
+pub fn extend<T>(it: &[u8], notes: &[Option<T>], way: &mut Way, i: u16)
     requires passable { Passable it.now notes.now }
     requires starts { Starts it.now i way.old }
     ensures { Leads it.now i way.new }

@@ -1,6 +1,7 @@
 -- `records::put_record` meets its contract.
 use lib.ListN.{length-set}
 use native.Mathlib.Omega.{arith}
+use Rattle.std.proofs.Common.{◌%◌, ◌/◌, ◌∙◌, ◌≡◌, ap, get_or}
 use Rattle.records.specs.Written.{stores}
 use Rattle.records.proofs.put_record.Goals as goal
 
@@ -26,4 +27,7 @@ pub bounds-it-at-8 : goal.bounds-it-at-8
 bounds-it-at-8 c = simp length-set (omega arith)
 
 pub returns : goal.returns
-returns c = stores _ _ _ c.requires.some c.requires.whole
+returns c =
+    let low : get_or c.to_le_bytes.result 0 0 ≡ c.args.r.parent % 256 = ap (λ bs. get_or bs 0 0) c.to_le_bytes.ensures ∙ omega arith in
+    let high : get_or c.to_le_bytes.result 1 0 ≡ c.args.r.parent / 256 = ap (λ bs. get_or bs 1 0) c.to_le_bytes.ensures ∙ omega arith in
+    rw (low, high) (stores _ _ _ c.requires.some c.requires.whole)

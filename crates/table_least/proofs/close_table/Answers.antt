@@ -12,6 +12,6 @@ returns c =
     let p = c.partners_of in
     record {
       valid = p.ensures.valid;
-      closed = close-made c.args.it.now c.args.table.now c.store.new.table c.load.new.words c.close.new.w p.new.partners p.ensures.valid c.load.ensures p.ensures.partners c.close.ensures c.store.ensures.same_bits;
+      closed = close-made c.args.it.now c.args.table.now c.store.new.bytes c.load.new.words c.close.new.w p.new.partners p.ensures.valid c.load.ensures p.ensures.partners c.close.ensures c.store.ensures.same_bits;
       narrow = c.store.ensures.narrow;
     }

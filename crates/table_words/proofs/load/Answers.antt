@@ -1,15 +1,15 @@
 -- The goals of `table_words::load`; the argument stands in Invariants.
-use Rattle.std.proofs.Common.{◌≡◌, ℕ, ◌*◌, ◌/◌, List, [], get_or, length, drop, length-set, length-take, length-drop, take, ◌∙◌, ap, w64, arith}
+use Rattle.std.proofs.Common.{refl, ◌≡◌, ℕ, ◌*◌, ◌/◌, List, [], get_or, length, drop, length-set, length-take, length-drop, take, ◌∙◌, ap, w64, arith}
 use Rattle.std.specs.Int.{from_le_bytes}
 use Rattle.table_words.specs.Words.{fill-next, get_or-first_chunks, loaded, value, value-eight}
 use Rattle.table_words.proofs.load.Goals as goal
 
 pub loop-i-init : goal.loop-i-init
-loop-i-init c = (c.told-words, λ k l. absurd (omega arith))
+loop-i-init c = (refl, λ k l. absurd (omega arith))
 
 pub loop-i-preserved : goal.loop-i-preserved
 loop-i-preserved c =
-    let t = c.args.table.now in let l = c.loop-i in
+    let t = c.args.bytes.now in let l = c.loop-i in
     let part = take 8 (drop (8 * l.i) t) in
     let chunk = ap (λ (xs : List (List ℕ)). get_or xs l.i []) c.as_chunks.ensures.front ∙ get_or-first_chunks 8 (length t / 8) t l.i (omega arith) in
     let long : length part ≡ 8 = omega (arith, length-take 8 (drop (8 * l.i) t), length-drop (8 * l.i) t) in
@@ -17,4 +17,4 @@ loop-i-preserved c =
 
 pub returns : goal.returns
 returns c =
-    let l = c.loop-i in loaded c.args.table.now c.fits-table 193 l.words l.invariant.0 c.told-table (λ i h. l.invariant.1 i (omega arith))
+    let l = c.loop-i in loaded c.args.bytes.now (λ j. omega (arith, c.type_inv.bytes j)) (length c.args.words.now) l.words l.invariant.0 c.requires (λ i h. l.invariant.1 i (omega arith))

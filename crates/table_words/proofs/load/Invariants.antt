@@ -4,4 +4,4 @@ use Rattle.table_words.specs.Words.{value}
 use Rattle.table_words.proofs.load.Given as goal
 
 abbrev pub invariant-loop-i : goal.invariant-loop-i
-invariant-loop-i l = (length l.words ≡ 193) × ((k : ℕ) → k < l.i → get_or l.words k 0 ≡ value (take 8 (drop (8 * k) l.table)))
+invariant-loop-i l = (length l.words ≡ length l.initial.words) × ((k : ℕ) → k < l.i → get_or l.words k 0 ≡ value (take 8 (drop (8 * k) l.bytes)))

@@ -4,4 +4,4 @@ use Rattle.table_words.specs.Words.{Stored}
 use Rattle.table_words.proofs.store.Given as goal
 
 abbrev pub invariant-loop-i : goal.invariant-loop-i
-invariant-loop-i l = (length l.table ≡ 1544) × Stored l.words (8 * l.i) l.table
+invariant-loop-i l = (length l.bytes ≡ length l.initial.bytes) × Stored l.words (8 * l.i) l.bytes

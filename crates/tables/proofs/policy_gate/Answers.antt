@@ -1,10 +1,7 @@
--- `tables::policy_gate` meets its contract: what has another length fails the test too.
-use Rattle.std.proofs.Common.{◌∙◌, sym}
-use Rattle.model.specs.Numbers.{number_of}
-use Rattle.tables.specs.Gates.{policy-unsized, refuses}
+-- `tables::policy_gate` meets its contract: what is right has its length.
+use Rattle.std.proofs.Common.{◌∙◌, arith, sym}
+use Rattle.model.proofs.Laws.Checks.{policy-length}
 use Rattle.tables.proofs.policy_gate.Goals as goal
-use Rattle.tables.proofs.policy_gate.Goals.{in_default-via-in-Some+else-policy_right, in_default-via-in_default}
 
-pub returns-in_default-clause-checks : goal.returns-in_default-clause-checks
-unfolding number_of
-returns-in_default-clause-checks c = refuses _ _ c.into.ensures (elim c.in_default.branch [ in_default-via-in-Some+else-policy_right w ↦ sym w.policy_right.ensures ∙ w.if-policy_right.false | in_default-via-in_default w ↦ policy-unsized _ w.in_default.ensures.cases ])
+pub gate-requires : goal.gate-requires
+gate-requires c = (omega arith, λ e. policy-length _ (sym c.policy_right.ensures ∙ e))

@@ -1,10 +1,7 @@
--- `tables::table_gate` meets its contract: what has another length fails the test too.
-use Rattle.std.proofs.Common.{◌∙◌, sym}
-use Rattle.model.specs.Numbers.{number_of}
-use Rattle.tables.specs.Gates.{table-unsized, refuses}
+-- `tables::table_gate` meets its contract: what is right has its length.
+use Rattle.std.proofs.Common.{◌∙◌, arith, sym}
+use Rattle.model.proofs.Laws.Checks.{table-length}
 use Rattle.tables.proofs.table_gate.Goals as goal
-use Rattle.tables.proofs.table_gate.Goals.{in_default-via-in-Some+else-table_right, in_default-via-in_default}
 
-pub returns-in_default-clause-checks : goal.returns-in_default-clause-checks
-unfolding number_of
-returns-in_default-clause-checks c = refuses _ _ c.into.ensures (elim c.in_default.branch [ in_default-via-in-Some+else-table_right w ↦ sym w.table_right.ensures ∙ w.if-table_right.false | in_default-via-in_default w ↦ table-unsized _ w.in_default.ensures.cases ])
+pub gate-requires : goal.gate-requires
+gate-requires c = (omega arith, λ e. table-length _ (sym c.table_right.ensures ∙ e))

@@ -5,18 +5,18 @@ use Rattle.text_form.specs.Laws.Putting.{fields-length, fields-put}
 use Rattle.text_entry.proofs.put_fields.Goals as goal
 
 pub put-label-requires : goal.put-label-requires
-put-label-requires c = omega (arith, c.requires, fields-length c.args.line, ap length c.kind_word.ensures)
+put-label-requires c = omega (arith, c.requires, fields-length c.args.line, ap length c.line_word.ensures)
 
 pub put_field-name-requires : goal.put_field-name-requires
 put_field-name-requires c =
     let word = c.put-label in
-    omega (arith, c.requires, fields-length c.args.line, by-length c.args.line.label 32, word.ensures.end, word.auto.text, ap length c.kind_word.ensures)
+    omega (arith, c.requires, fields-length c.args.line, by-length c.args.line.label 32, word.ensures.end, word.auto.text, ap length c.line_word.ensures)
 
 pub put_number-requires : goal.put_number-requires
 put_number-requires c =
     let word = c.put-label in
     let label = c.put_field-name in
-    omega (arith, c.requires, fields-length c.args.line, by-length c.args.line.label 32, word.ensures.end, word.auto.text, ap length c.kind_word.ensures, label.ensures.end, label.auto.text)
+    omega (arith, c.requires, fields-length c.args.line, by-length c.args.line.label 32, word.ensures.end, word.auto.text, ap length c.line_word.ensures, label.ensures.end, label.auto.text)
 
 pub returns : goal.returns
-returns c = fields-put _ c.requires (put_as c.kind_word.ensures c.put-label.ensures) c.put_field-name.ensures c.put_number.ensures
+returns c = fields-put _ c.requires (put_as c.line_word.ensures c.put-label.ensures) c.put_field-name.ensures c.put_number.ensures

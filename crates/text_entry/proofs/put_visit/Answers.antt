@@ -9,10 +9,10 @@ pub put_entry-requires : goal.put_entry-requires
 put_entry-requires c =
     let args = c.args in let r = c.record_at-r in let s = c.record_at-s in record {
       shallow = c.requires.shallow;
-      fits = omega (arith, c.requires.fits, ap length (visit-is args.listed (records args.it.now) (records args.sheet.now) args.v r.result s.result (at-is c.requires.whole _ _ r.ensures) (at-is c.requires.sheet _ _ s.ensures) c.capability.ensures c.is_gone.ensures));
+      fits = omega (arith, c.requires.fits, ap length (visit-is args.listed (records args.it.now) (records args.sheet.now) args.v r.result s.result c.then_some-shown.ensures (at-is c.requires.whole _ _ r.ensures) (at-is c.requires.sheet _ _ s.ensures) c.kind_of_record.ensures c.is_gone.ensures));
     }
 
 pub returns : goal.returns
 returns c =
     let r = c.record_at-r in let s = c.record_at-s in
-    put_as (visit-is _ _ _ _ r.result s.result (at-is c.requires.whole _ _ r.ensures) (at-is c.requires.sheet _ _ s.ensures) c.capability.ensures c.is_gone.ensures) c.put_entry.ensures
+    put_as (visit-is _ _ _ _ r.result s.result c.then_some-shown.ensures (at-is c.requires.whole _ _ r.ensures) (at-is c.requires.sheet _ _ s.ensures) c.kind_of_record.ensures c.is_gone.ensures) c.put_entry.ensures

@@ -1,20 +1,20 @@
 -- A text that is read without a fault is the text of its lines: reading loses nothing, and writing gives it back.
-use Rattle.std.specs.Prelude.{◌%◌, ◌*◌, ◌+◌, ◌-◌, ◌/◌, ◌<◌, ◌≤◌, suc, zero, ℕ, eqb, leb, drop, is_none, length, replicate, Bool, false, true, List, [], ◌++◌, ◌∷◌, ◌≡◌, refl}
+use Rattle.std.specs.Prelude.{◌%◌, ◌*◌, ◌+◌, ◌-◌, ◌/◌, ◌<◌, ◌≤◌, suc, zero, ℕ, eqb, leb, drop, length, replicate, Bool, false, true, List, [], ◌++◌, ◌∷◌, ◌≡◌, refl}
 use Rattle.std.proofs.Common.{eqb-true, leb-true, length-drop, drop-cons, drop-drop, true≢false, ◌∙◌, ap, sym, subst, arith}
 use Rattle.std.specs.Prelude.{Option, None, Some, Result, Ok, Err}
 use Rattle.model.proofs.Laws.Bytes.{records-encode}
 use Rattle.model.proofs.Laws.Booleans.{and_right}
 use Rattle.model.specs.Listing.{digits_in}
 use Rattle.model.specs.Records.{byte, encode, records}
-use Rattle.model.specs.declared.Capability.{Capability}
 use Rattle.model.specs.Validity.{label_in}
 use Rattle.text_form.specs.Laws.Lines.{demand-good, digits_2, digits_3, ended-good, line-parts, named-good, number-good, number-some, scan-bad, scan_good, scan-nested, tail_bytes, worded-as, worded-good}
 use Rattle.text_put.specs.Digits.{digits_1}
 use Rattle.text_form.specs.Laws.Nesting.{walk-placed}
 use Rattle.text_form.specs.Laws.Scanning.{digit-inside, digit_low, numeral-cases}
-use Rattle.text_form.specs.Lines.{kind_word, line_bytes, render}
+use Rattle.text_form.specs.Lines.{ambient_kind, kind_word, line_bytes, line_word, render}
 use Rattle.text_form.specs.Reading.{before, digit, ended, labelled, leading, line_read, named, number_read, numeral, placed, scan, scan_from, spaces, starts, worded}
 use Rattle.text_form.specs.Writing.{text_of}
+use Rattle.text_form.specs.declared.Kind.{Kind}
 use Rattle.text_form.specs.declared.Line.{Line}
 use Rattle.text_form.specs.declared.LineRead.{LineRead}
 use Rattle.text_form.specs.declared.Cause.{Cause}
@@ -109,7 +109,7 @@ ended-exact m (c ∷ s) {l} {left} e =
     let w : suc (length s) - left ≡ 1 = omega arith in
     rw w (ap (λ x. x ∷ s) (sym (eqb-true c 10 g.0)))
 
-named-exact : (d : ℕ) (k : Option Capability) (label : ℕ) (s : List ℕ) {l : Line} {left : ℕ} → named d k label s ≡ Ok (record { line = l; left = left }) → 32 ∷ (digits_in 5 l.name ++ (10 ∷ drop (length s - left) s)) ≡ s
+named-exact : (d : ℕ) (k : Kind) (label : ℕ) (s : List ℕ) {l : Line} {left : ℕ} → named d k label s ≡ Ok (record { line = l; left = left }) → 32 ∷ (digits_in 5 l.name ++ (10 ∷ drop (length s - left) s)) ≡ s
 unfolding named
 named-exact d k label s {l} {left} e =
     let z = demand-good (eqb (byte s 0) 32) _ _ e in
@@ -128,22 +128,22 @@ named-exact d k label s {l} {left} e =
     ∙ first-1 s (omega (arith, p, length-drop 1 s))
 
 -- the line's depth and kind, and its bytes from the label on
-pub record Labelled (d : ℕ) (k : Option Capability) (s : List ℕ) (l : Line) (left : ℕ) : Type 0 where
+pub record Labelled (d : ℕ) (k : Kind) (s : List ℕ) (l : Line) (left : ℕ) : Type 0 where
   pub depth : l.depth ≡ d
-  pub capability : l.capability ≡ k
+  pub kind : l.kind ≡ Some k
   pub fewer : left < length s
   pub bytes : digits_in 5 l.label ++ (32 ∷ (digits_in 5 l.name ++ (10 ∷ drop (length s - left) s))) ≡ s
 
-labelled-exact : (d : ℕ) (k : Option Capability) (s : List ℕ) {l : Line} {left : ℕ} → labelled d k s ≡ Ok (record { line = l; left = left }) → Labelled d k s l left
+labelled-exact : (d : ℕ) (k : Kind) (s : List ℕ) {l : Line} {left : ℕ} → labelled d k s ≡ Ok (record { line = l; left = left }) → Labelled d k s l left
 unfolding labelled
 labelled-exact d k s {l} {left} e =
     let z = number-good (number_read cause.NoLabel s) _ e in
     let n = z.0 in
-    let b = demand-good (label_in (is_none k) n.value) cause.WrongLabel _ z.2 in
+    let b = demand-good (label_in (ambient_kind k) n.value) cause.WrongLabel _ z.2 in
     let g = named-good d k n.value _ b.1 in
     record {
       depth = g.0;
-      capability = g.1;
+      kind = g.1;
       fewer = omega (arith, g.4, length-drop n.width s);
       bytes =
           ap (λ x. digits_in 5 x ++ (32 ∷ (digits_in 5 l.name ++ (10 ∷ drop (length s - left) s)))) g.2
@@ -154,13 +154,13 @@ labelled-exact d k s {l} {left} e =
 
 -- the same from the kind's word on
 worded-exact : (d : ℕ) (s : List ℕ) {l : Line} {left : ℕ} → worded d s ≡ Ok (record { line = l; left = left }) → (l.depth ≡ d) × (tail_bytes l (drop (length s - left) s) ≡ s)
-unfolding tail_bytes
+unfolding tail_bytes line_word
 worded-exact d s {l} {left} e =
     let b = worded-as d s e in
     let w = kind_word b.kind in
     let g = labelled-exact d b.kind (drop (length w) s) b.after in (
       g.depth,
-      ap (λ x. kind_word x ++ (digits_in 5 l.label ++ (32 ∷ (digits_in 5 l.name ++ (10 ∷ drop (length s - left) s))))) g.capability
+      ap (λ x. line_word x ++ (digits_in 5 l.label ++ (32 ∷ (digits_in 5 l.name ++ (10 ∷ drop (length s - left) s))))) g.kind
           ∙ ap (λ x. w ++ (digits_in 5 l.label ++ (32 ∷ (digits_in 5 l.name ++ (10 ∷ x))))) (sym (left-same (length w) s left g.fewer))
           ∙ ap (λ x. w ++ x) g.bytes
           ∙ starts-exact w s b.word,

@@ -10,7 +10,7 @@ use Rattle.model.specs.Refusals.{refuse}
 use Rattle.model.specs.Validity.{label_in, validity}
 use Rattle.model.specs.declared.Rec.{Rec}
 use Rattle.text_form.specs.Laws.Converted.{fault-refused}
-use Rattle.text_form.specs.Lines.{ambient_word, entry, hidden_word, in_word, indent, kind_byte, kind_word, line_bytes, open_word, out_word, render}
+use Rattle.text_form.specs.Lines.{acting, ambient_kind, ambient_word, entry, hidden_word, in_word, indent, kind_at, kind_byte, kind_word, line_bytes, line_word, open_word, out_word, render}
 use Rattle.text_form.specs.Reading.{before, bytes_of, cause_at, converted, demand, digit, ended, kinds, labelled, leading, length_told, line_read, lines_answer, mark_bytes, named, none_above, number_alone, number_read, numeral, numeral_of, placed, placed_from, read_answer, read_by, record_of, room_in, scan, scan_answer, scan_from, starts, unworded, visible, with_number, worded, worded_by}
 use Rattle.text_form.specs.Writing.{child_or, is_child, line_at, lines_of, list_line, list_of, mark, next_from, no_text, text_of, walk, walk_from}
 use Rattle.text_form.specs.declared.Cause.TheVariants as cause
@@ -40,11 +40,11 @@ listing_b =
     ∷ []
 
 pub writes-b : text_of example_b ≡ text_b
-unfolding text_of example_b text_b render line_bytes entry indent kind_word ambient_word in_word out_word open_word field digits_in line_at capability walk walk_from next_from child_or is_child lowest at
+unfolding text_of example_b text_b render line_bytes entry indent line_word kind_word ambient_word in_word out_word open_word field digits_in line_at kind_at acting capability walk walk_from next_from child_or is_child lowest at
 writes-b = refl
 
 pub reads-b : bytes_of text_b ≡ encode example_b
-unfolding bytes_of example_b text_b scan scan_from before line_read worded worded_by kinds kind_word labelled named ended demand numeral numeral_of digit starts leading cause_at number_read number_alone with_number ambient_word in_word out_word open_word label_in placed placed_from record_of kind_byte kind_of none_above encode
+unfolding bytes_of example_b text_b scan scan_from before line_read worded worded_by kinds kind_word labelled named ended demand numeral numeral_of digit starts leading cause_at number_read number_alone with_number ambient_word in_word out_word open_word ambient_kind label_in placed placed_from record_of kind_byte kind_of none_above encode
 reads-b = refl
 
 -- "ambient 1 0", with a carriage return before the end of the line
@@ -52,12 +52,12 @@ unfoldable pub text_return : List ℕ
 text_return = 97 ∷ 109 ∷ 98 ∷ 105 ∷ 101 ∷ 110 ∷ 116 ∷ 32 ∷ 49 ∷ 32 ∷ 48 ∷ 13 ∷ 10 ∷ []
 
 pub faults-return : read_answer text_return (replicate 8 0) ≡ Err (record { line = 1; cause = cause.CarriageReturn })
-unfolding text_return read_answer lines_answer length_told scan_answer read_by room_in scan scan_from line_read worded worded_by kinds kind_word labelled named ended demand numeral numeral_of digit starts leading cause_at number_read number_alone with_number ambient_word label_in
+unfolding text_return read_answer lines_answer length_told scan_answer read_by room_in scan scan_from line_read worded worded_by kinds kind_word labelled named ended demand numeral numeral_of digit starts leading cause_at number_read number_alone with_number ambient_word ambient_kind label_in
 faults-return = refl
 
 -- where label 2 alone is suspect
 pub lists-b : list_of example_b (λ k. eqb k 2) ≡ listing_b
-unfolding list_of example_b listing_b lines_of list_line mark hidden_word entry indent kind_word ambient_word in_word out_word open_word field digits_in line_at capability walk walk_from next_from child_or is_child lowest at view view_from hides is_suspect is_ambient
+unfolding list_of example_b listing_b lines_of list_line mark hidden_word entry indent line_word kind_word ambient_word in_word out_word open_word field digits_in line_at kind_at acting capability walk walk_from next_from child_or is_child lowest at view view_from hides is_suspect is_ambient
 lists-b = refl
 
 -- what hubshow writes where it has no text is none: hubtext refuses it, and writes what every call on an itinerary refuses

@@ -2,7 +2,7 @@
 use Prim.Native.Nat.{◌+◌, ◌-◌, ◌<◌, ◌≤◌, suc, zero, ℕ}
 use Rattle.std.proofs.lemmas.Bool.{eqb-false, not-true}
 use Rattle.std.proofs.Common.{le-leb, leb-true, get_or-set_other, get_or-set_same, ◌∙◌, sym, arith}
-use Rattle.std.specs.Prelude.{leb, get_or, set, Bool, false, true, List, [], ◌∷◌, map, ◌≢◌, ◌≡◌}
+use Rattle.std.specs.Prelude.{eqb, leb, get_or, set, Bool, false, true, List, [], ◌∷◌, map, ◌≢◌, ◌≡◌}
 use Rattle.std.proofs.Math.ListN.{length, length-map}
 use Rattle.std.proofs.Math.Seq.{set_out}
 use Rattle.std.specs.Prelude.{Option, None, Some, Ok}
@@ -20,8 +20,8 @@ use Rattle.model.specs.Refusals.{content, pass}
 use Rattle.model.specs.declared.Rec.{Rec}
 use Rattle.text_put.specs.Puts.{over}
 use Rattle.text_form.specs.Laws.Lines.{scan-nested, scan-render}
-use Rattle.text_form.specs.Laws.Nesting.{Nested, Right, byte-ambient, byte-high, byte-low, cons, kind-ambient, length-placed, nil, none-zero, walk-next, walk-placed}
-use Rattle.text_form.specs.Lines.{kind_byte, render}
+use Rattle.text_form.specs.Laws.Nesting.{Nested, Right, byte-ambient, byte-high, byte-low, cons, kind-known, length-placed, nil, none-zero, walk-next, walk-placed}
+use Rattle.text_form.specs.Lines.{ambient_kind, kind_byte, render}
 use Rattle.text_form.specs.Reading.{bytes_of, length_told, lines_answer, none_above, placed, placed_from, read_after, read_answer, read_by, read_into, record_of, room_in, scan, scan_answer}
 use Rattle.text_form.specs.Writing.{Length, child_or, child_over, fits, is_child, line_at, next_from, over_if, text_of, told, told_after, walk, walk_from, write_after, write_answer}
 use Rattle.text_form.specs.declared.Line.{Line}
@@ -59,8 +59,11 @@ unfolding line_at is_ambient kind_right nested
 line-right its wf v z =
     let r = at its v.number in
     let k : r.kind ≤ 4 = leb-true _ _ (shape-kind r (wf.shaped v.number)) in
+    let x = kind-known r.kind z k in
     record {
-      label = rw (kind-ambient r.kind z k) (shape-label r (wf.shaped v.number) (rw (le-leb 1 r.kind (omega arith), le-leb r.kind 4 k)));
+      kind = x.0;
+      known = x.1;
+      label = rw (x.2) (shape-label r (wf.shaped v.number) (rw (le-leb 1 r.kind (omega arith), le-leb r.kind 4 k)));
       name = omega (arith, named wf v.number);
     }
 
@@ -101,15 +104,17 @@ placed-lower k above (x ∷ ls) h (suc i) l = omega (arith, placed-lower (suc k)
 record-shape : (l : Line) (p : ℕ) → Right l → shape (record_of l p) ≡ true
 unfolding record_of kind_right label_right label_by name_right name_by nested is_ambient
 record-shape l p r =
-    let k = kind_byte l.capability in
-    let a : leb 1 k ≡ true = le-leb 1 k (byte-low l.capability) in
-    let b : leb k 4 ≡ true = le-leb k 4 (byte-high l.capability) in
-    shape-make _ b (rw (a, b, byte-ambient l.capability) r.label) (rw (a, b) (le-leb l.name 63 r.name))
+    let k = kind_byte l.kind in
+    let q = ap kind_byte r.known in
+    let a : leb 1 k ≡ true = le-leb 1 k (omega (arith, q, byte-low r.kind)) in
+    let b : leb k 4 ≡ true = le-leb k 4 (omega (arith, q, byte-high r.kind)) in
+    let c : eqb k 1 ≡ ambient_kind r.kind = ap (λ x. eqb x 1) q ∙ byte-ambient r.kind in
+    shape-make _ b (rw (a, b, c) r.label) (rw (a, b) (le-leb l.name 63 r.name))
 
 placed-shape : (k d : ℕ) (above : List ℕ) (ls : List Line) → Nested d ls → (i : ℕ) → i < length ls → (shape (get_or (placed_from k above ls) i gone) ≡ true) × ((get_or (placed_from k above ls) i gone).kind ≢ 0)
 unfolding placed_from record_of
 placed-shape k d above [] n i l = absurd (omega arith)
-placed-shape k d above (x ∷ ls) (cons deep r n) zero l = (record-shape x _ r, omega (arith, byte-low x.capability))
+placed-shape k d above (x ∷ ls) (cons deep r n) zero l = (record-shape x _ r, omega (arith, ap kind_byte r.known, byte-low r.kind))
 placed-shape k d above (x ∷ ls) (cons deep r n) (suc i) l = placed-shape (suc k) (suc x.depth) (set above (suc x.depth) k) ls n i (omega arith)
 
 module _ (ls : List Line) (n : Nested 0 ls) where

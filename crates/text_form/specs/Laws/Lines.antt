@@ -1,5 +1,5 @@
 -- A line that is written is read back, and what a line that is read has.
-use Rattle.std.specs.Prelude.{◌%◌, ◌*◌, ◌+◌, ◌-◌, ◌/◌, ◌<◌, ◌≤◌, suc, zero, ℕ, eqb, leb, drop, is_none, length, replicate, Bool, false, true, List, [], ◌++◌, ◌∷◌, ◌≢◌, ◌≡◌, refl}
+use Rattle.std.specs.Prelude.{◌%◌, ◌*◌, ◌+◌, ◌-◌, ◌/◌, ◌<◌, ◌≤◌, suc, zero, ℕ, eqb, leb, drop, length, replicate, Bool, false, true, List, [], ◌++◌, ◌∷◌, ◌≢◌, ◌≡◌, refl}
 use Rattle.std.proofs.Common.{eq-eqb, le-leb, leb-true, ne_eqb, length-append, length-drop, drop_at, append_assoc, ◌∙◌, ap, sym, arith}
 use Rattle.std.proofs.lemmas.List.{length-replicate}
 use Rattle.std.proofs.Math.Seq.{drop-append_seam, get_or-append_seam}
@@ -8,13 +8,14 @@ use Rattle.std.proofs.Math.Decide.{dec_le, ℕ_discrete}
 use Rattle.model.proofs.Laws.WellFormed.{label-in}
 use Rattle.model.specs.Listing.{digits_in, field}
 use Rattle.model.specs.Records.{byte}
-use Rattle.model.specs.declared.Capability.{Capability}
 use Rattle.model.specs.declared.Capability.TheVariants.{In as cap-in, Open as cap-open, Out as cap-out}
 use Rattle.model.specs.Validity.{label_in}
 use Rattle.text_put.specs.Digits.{digits_1, digits-high, digits_low}
 use Rattle.text_form.specs.Laws.Nesting.{Nested, Right, cons, nil}
-use Rattle.text_form.specs.Lines.{ambient_word, entry, in_word, indent, kind_word, line_bytes, open_word, out_word, render}
+use Rattle.text_form.specs.Lines.{ambient_kind, ambient_word, entry, in_word, indent, kind_word, line_bytes, line_word, open_word, out_word, render}
 use Rattle.text_form.specs.Reading.{before, cause_at, demand, digit, digits_cause, ended, kinds, labelled, leading, line_read, mark_bytes, named, number_alone, number_read, numeral, numeral_of, scan_from, spaces, starts, unworded, with_number, worded, worded_by}
+use Rattle.text_form.specs.declared.Kind.{Kind}
+use Rattle.text_form.specs.declared.Kind.TheVariants.{Acts, Ambient}
 use Rattle.text_form.specs.declared.Line.{Line}
 use Rattle.text_form.specs.declared.LineRead.{LineRead}
 use Rattle.text_form.specs.declared.Cause.{Cause}
@@ -101,33 +102,37 @@ number-some missing s {n} e = go (numeral s) refl e
     go None p q = let u : ◌≡◌ {A = ℕ} 0 1 = cc in absurd (omega arith)
     go (Some m) p q = p ∙ alone m (digit (byte s m.width)) q
 
--- the parts of a line that is written are read back
-named_back : (l : Line) → l.name ≤ 63 → (s : List ℕ) → named l.depth l.capability l.label (32 ∷ (digits_in 5 l.name ++ (10 ∷ s))) ≡ Ok (record { line = l; left = length s })
-unfolding named demand ended with_number
-named_back l h s =
-    rw (number-fine cause.NoName l.name 10 s (omega arith) ten-no-digit, with_number)
-    (rw (le-leb l.name 63 h, drop-append_seam (digits_in 5 l.name) (10 ∷ s)))
+-- a line by its parts
+known-line : (l : Line) (r : Right l) → record { depth = l.depth; kind = Some r.kind; label = l.label; name = l.name } ≡ l
+known-line l r = ap (λ k. record { depth = l.depth; kind = k; label = l.label; name = l.name }) (sym r.known)
 
-labelled-back : (l : Line) → Right l → (s : List ℕ) → labelled l.depth l.capability (digits_in 5 l.label ++ (32 ∷ (digits_in 5 l.name ++ (10 ∷ s)))) ≡ Ok (record { line = l; left = length s })
+-- the parts of a line that is written are read back
+named_back : (l : Line) (r : Right l) (s : List ℕ) → named l.depth r.kind l.label (32 ∷ (digits_in 5 l.name ++ (10 ∷ s))) ≡ Ok (record { line = l; left = length s })
+unfolding named demand ended with_number
+named_back l r s =
+    rw (number-fine cause.NoName l.name 10 s (omega arith) ten-no-digit, with_number)
+    (rw (le-leb l.name 63 r.name, drop-append_seam (digits_in 5 l.name) (10 ∷ s)) (ap (λ x. Ok (record { line = x; left = length s })) (known-line l r)))
+
+labelled-back : (l : Line) (r : Right l) (s : List ℕ) → labelled l.depth r.kind (digits_in 5 l.label ++ (32 ∷ (digits_in 5 l.name ++ (10 ∷ s)))) ≡ Ok (record { line = l; left = length s })
 unfolding labelled demand with_number
 labelled-back l r s =
     rw (number-fine cause.NoLabel l.label 32 _ (omega (arith, label-in _ _ r.label)) space-no-digit, with_number)
     (rw (r.label, drop-append_seam (digits_in 5 l.label) (32 ∷ (digits_in 5 l.name ++ (10 ∷ s))))
-    (named_back l r.name s))
+    (named_back l r s))
 
-worded-back : (d : ℕ) (k : Option Capability) (s : List ℕ) → worded d (kind_word k ++ s) ≡ labelled d k s
+worded-back : (d : ℕ) (k : Kind) (s : List ℕ) → worded d (kind_word k ++ s) ≡ labelled d k s
 unfolding worded worded_by kinds kind_word starts ambient_word in_word out_word open_word
-worded-back d None s = refl
-worded-back d (Some cap-in) s = refl
-worded-back d (Some cap-out) s = refl
-worded-back d (Some cap-open) s = refl
+worded-back d Ambient s = refl
+worded-back d (Acts cap-in) s = refl
+worded-back d (Acts cap-out) s = refl
+worded-back d (Acts cap-open) s = refl
 
-word-solid : (k : Option Capability) (s : List ℕ) → spaces (kind_word k ++ s) ≡ 0
+word-solid : (k : Kind) (s : List ℕ) → spaces (kind_word k ++ s) ≡ 0
 unfolding leading kind_word ambient_word in_word out_word open_word
-word-solid None s = refl
-word-solid (Some cap-in) s = refl
-word-solid (Some cap-out) s = refl
-word-solid (Some cap-open) s = refl
+word-solid Ambient s = refl
+word-solid (Acts cap-in) s = refl
+word-solid (Acts cap-out) s = refl
+word-solid (Acts cap-open) s = refl
 
 spaces-after : (n : ℕ) (s : List ℕ) → spaces s ≡ 0 → spaces (replicate n 32 ++ s) ≡ n
 unfolding leading
@@ -136,7 +141,7 @@ spaces-after (suc n) s e = ap suc (spaces-after n s e)
 
 -- what follows the indentation of a line
 unfoldable pub tail_bytes : Line → List ℕ → List ℕ
-tail_bytes l s = kind_word l.capability ++ (digits_in 5 l.label ++ (32 ∷ (digits_in 5 l.name ++ (10 ∷ s))))
+tail_bytes l s = line_word l.kind ++ (digits_in 5 l.label ++ (32 ∷ (digits_in 5 l.name ++ (10 ∷ s))))
 
 pub line-parts : (l : Line) (s : List ℕ) → line_bytes l ++ s ≡ replicate (2 * l.depth) 32 ++ tail_bytes l s
 unfolding line_bytes entry indent field tail_bytes
@@ -144,12 +149,13 @@ line-parts l s = simp append_assoc
 
 -- a line that is written is read back, and nothing after it is looked at
 pub line-back : (d : ℕ) (l : Line) → l.depth ≤ d → Right l → (s : List ℕ) → line_read d (line_bytes l ++ s) ≡ Ok (record { line = l; left = length s })
-unfolding line_read demand tail_bytes
+unfolding line_read demand tail_bytes line_word
 line-back d l h r s =
-    let e : spaces (replicate (2 * l.depth) 32 ++ tail_bytes l s) ≡ 2 * l.depth = spaces-after (2 * l.depth) _ (word-solid l.capability _) in
+    let w : line_word l.kind ≡ kind_word r.kind = ap line_word r.known in
+    let e : spaces (replicate (2 * l.depth) 32 ++ tail_bytes l s) ≡ 2 * l.depth = spaces-after (2 * l.depth) _ (rw w (word-solid r.kind _)) in
     let f : 2 * l.depth / 2 ≡ l.depth = omega arith in
     rw (line-parts l s) (rw e (rw (eq-eqb (2 * l.depth % 2) 0 (omega arith), f, le-leb l.depth d h, drop_at (replicate (2 * l.depth) 32) (tail_bytes l s) (2 * l.depth) (length-replicate _ _))
-    (worded-back l.depth l.capability _ ∙ labelled-back l r s)))
+    (rw w (worded-back l.depth r.kind _ ∙ labelled-back l r s))))
 
 -- what is no line is no end
 empty-bad : (d : ℕ) → line_read d [] ≡ Err cause.UnknownKind
@@ -200,7 +206,7 @@ ended-good m (c ∷ s) {l} {left} e =
     let u : ◌≡◌ {A = LineRead} (record { line = m; left = length s }) (record { line = l; left = left }) = cc in
     (ap (λ x. x.line) u, omega (arith, ap (λ x. x.left) u))
 
-pub named-good : (d : ℕ) (k : Option Capability) (label : ℕ) (s : List ℕ) {l : Line} {left : ℕ} → named d k label s ≡ Ok (record { line = l; left = left }) → (l.depth ≡ d) × (l.capability ≡ k) × (l.label ≡ label) × (l.name ≤ 63) × (left < length s)
+pub named-good : (d : ℕ) (k : Kind) (label : ℕ) (s : List ℕ) {l : Line} {left : ℕ} → named d k label s ≡ Ok (record { line = l; left = left }) → (l.depth ≡ d) × (l.kind ≡ Some k) × (l.label ≡ label) × (l.name ≤ 63) × (left < length s)
 unfolding named
 named-good d k label s {l} {left} e =
     let a = (demand-good (eqb (byte s 0) 32) _ _ e).1 in
@@ -209,18 +215,18 @@ named-good d k label s {l} {left} e =
     let c = demand-good (leb n.value 63) cause.WrongName _ b.2 in
     let g = ended-good _ _ c.1 in
     let w : l.name ≡ n.value = sym (ap (λ x. x.name) g.0) in
-    (sym (ap (λ x. x.depth) g.0), sym (ap (λ x. x.capability) g.0), sym (ap (λ x. x.label) g.0), omega (arith, leb-true n.value 63 c.0), omega (arith, g.1, length-drop n.width (drop 1 s), length-drop 1 s))
+    (sym (ap (λ x. x.depth) g.0), sym (ap (λ x. x.kind) g.0), sym (ap (λ x. x.label) g.0), omega (arith, leb-true n.value 63 c.0), omega (arith, g.1, length-drop n.width (drop 1 s), length-drop 1 s))
 
-pub labelled-good : (d : ℕ) (k : Option Capability) (s : List ℕ) {l : Line} {left : ℕ} → labelled d k s ≡ Ok (record { line = l; left = left }) → Got d s l left
+pub labelled-good : (d : ℕ) (k : Kind) (s : List ℕ) {l : Line} {left : ℕ} → labelled d k s ≡ Ok (record { line = l; left = left }) → Got d s l left
 unfolding labelled
 labelled-good d k s {l} {left} e =
     let a = number-good (number_read cause.NoLabel s) _ e in
     let n = a.0 in
-    let b = demand-good (label_in (is_none k) n.value) cause.WrongLabel _ a.2 in
+    let b = demand-good (label_in (ambient_kind k) n.value) cause.WrongLabel _ a.2 in
     let g = named-good d k n.value _ b.1 in
     record {
       deep = omega (arith, g.0);
-      right = record { label = rw (g.1, g.2) b.0; name = g.3 };
+      right = record { kind = k; known = g.1; label = rw (g.2) b.0; name = g.3 };
       fewer = omega (arith, g.4, length-drop n.width s);
     }
 
@@ -229,11 +235,11 @@ got-past n s g = record { deep = g.deep; right = g.right; fewer = omega (arith, 
 
 -- the bytes s start with a kind's word, and what follows it was read
 pub record Worded (d : ℕ) (s : List ℕ) (l : Line) (left : ℕ) : Type 0 where
-  pub kind : Option Capability
+  pub kind : Kind
   pub word : starts (kind_word kind) s ≡ true
   pub after : labelled d kind (drop (length (kind_word kind)) s) ≡ Ok (record { line = l; left = left })
 
-first-word : (ks : List (Option Capability)) (d : ℕ) (s : List ℕ) {l : Line} {left : ℕ} → worded_by ks d s ≡ Ok (record { line = l; left = left }) → Worded d s l left
+first-word : (ks : List Kind) (d : ℕ) (s : List ℕ) {l : Line} {left : ℕ} → worded_by ks d s ≡ Ok (record { line = l; left = left }) → Worded d s l left
 unfolding worded_by unworded
 first-word [] d s e = let u : ◌≡◌ {A = ℕ} 0 1 = cc in absurd (omega arith)
 first-word (k ∷ ks) d s {l} {left} e = go (starts (kind_word k) s) refl (first-word ks d s)

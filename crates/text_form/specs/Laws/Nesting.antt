@@ -1,7 +1,7 @@
 -- Lines that are placed and walked again are the same lines.
 use Prim.Native.Nat.{◌+◌, ◌-◌, ◌<◌, ◌≤◌, suc, zero, ℕ}
 use Rattle.std.proofs.Common.{eq-eqb, ne_eqb, inl, inr, ◌∙◌}
-use Rattle.std.specs.Prelude.{eqb, get_or, is_none, set, false, not, true, List, [], ◌∷◌, map, ◌≢◌, ◌⊎◌, ◌≡◌, refl}
+use Rattle.std.specs.Prelude.{eqb, get_or, set, false, not, true, List, [], ◌∷◌, map, ◌≢◌, ◌⊎◌, ◌≡◌, refl}
 use Rattle.std.specs.Prelude.{Option, None, Some}
 use Rattle.std.proofs.Math.ListN.{length, length-set}
 use Rattle.std.proofs.lemmas.List.{length-replicate}
@@ -13,59 +13,63 @@ use native.Mathlib.Omega.{arith}
 use Rattle.model.proofs.Laws.Finite.{replicated}
 use Rattle.model.proofs.Laws.Finite.{lowest-make, lowest-nothing}
 use Rattle.model.specs.Records.{at, capability, gone, parent_of}
-use Rattle.model.specs.declared.Capability.{Capability}
 use Rattle.model.specs.declared.Capability.TheVariants.{In as cap-in, Open as cap-open, Out as cap-out}
 use Rattle.model.specs.Scripts.{kind_of}
 use Rattle.model.specs.Validity.{label_in}
 use Rattle.model.specs.declared.Rec.{Rec}
-use Rattle.text_form.specs.Lines.{kind_byte}
+use Rattle.text_form.specs.Lines.{acting, ambient_kind, kind_at, kind_byte}
 use Rattle.text_form.specs.Reading.{none_above, placed, placed_from, record_of}
 use Rattle.text_form.specs.Writing.{child_or, child_over, is_child, line_at, next_from, walk, walk_from}
+use Rattle.text_form.specs.declared.Kind.{Kind}
+use Rattle.text_form.specs.declared.Kind.TheVariants.{Acts, Ambient}
 use Rattle.text_form.specs.declared.Line.{Line}
 use Rattle.text_form.specs.declared.Visit.{Visit}
 
 -- the number of a kind is 1 to 4, that of an ambient alone is 1, and it gives the kind back
-pub byte-low : (k : Option Capability) → 1 ≤ kind_byte k
+pub byte-low : (k : Kind) → 1 ≤ kind_byte (Some k)
 unfolding kind_byte kind_of
-byte-low None = omega arith
-byte-low (Some cap-in) = omega arith
-byte-low (Some cap-out) = omega arith
-byte-low (Some cap-open) = omega arith
+byte-low Ambient = omega arith
+byte-low (Acts cap-in) = omega arith
+byte-low (Acts cap-out) = omega arith
+byte-low (Acts cap-open) = omega arith
 
-pub byte-high : (k : Option Capability) → kind_byte k ≤ 4
+pub byte-high : (k : Kind) → kind_byte (Some k) ≤ 4
 unfolding kind_byte kind_of
-byte-high None = omega arith
-byte-high (Some cap-in) = omega arith
-byte-high (Some cap-out) = omega arith
-byte-high (Some cap-open) = omega arith
+byte-high Ambient = omega arith
+byte-high (Acts cap-in) = omega arith
+byte-high (Acts cap-out) = omega arith
+byte-high (Acts cap-open) = omega arith
 
-pub byte-ambient : (k : Option Capability) → eqb (kind_byte k) 1 ≡ is_none k
-unfolding kind_byte kind_of
-byte-ambient None = refl
-byte-ambient (Some cap-in) = refl
-byte-ambient (Some cap-out) = refl
-byte-ambient (Some cap-open) = refl
+pub byte-ambient : (k : Kind) → eqb (kind_byte (Some k)) 1 ≡ ambient_kind k
+unfolding kind_byte kind_of ambient_kind
+byte-ambient Ambient = refl
+byte-ambient (Acts cap-in) = refl
+byte-ambient (Acts cap-out) = refl
+byte-ambient (Acts cap-open) = refl
 
-byte-back : (k : Option Capability) → capability (kind_byte k) ≡ k
-unfolding kind_byte kind_of capability
+byte-back : (k : Option Kind) → kind_at (kind_byte k) ≡ k
+unfolding kind_byte kind_of kind_at acting capability
 byte-back None = refl
-byte-back (Some cap-in) = refl
-byte-back (Some cap-out) = refl
-byte-back (Some cap-open) = refl
+byte-back (Some Ambient) = refl
+byte-back (Some (Acts cap-in)) = refl
+byte-back (Some (Acts cap-out)) = refl
+byte-back (Some (Acts cap-open)) = refl
 
--- the other way round: an ambient among the records that aren't gone
-pub kind-ambient : (n : ℕ) → n ≢ 0 → n ≤ 4 → is_none (capability n) ≡ eqb n 1
-unfolding capability
-kind-ambient zero z h = absurd (z refl)
-kind-ambient (suc zero) z h = refl
-kind-ambient (suc (suc zero)) z h = refl
-kind-ambient (suc (suc (suc zero))) z h = refl
-kind-ambient (suc (suc (suc (suc zero)))) z h = refl
-kind-ambient (suc (suc (suc (suc (suc n))))) z h = absurd (omega arith)
+-- the other way round: what a number from 1 to 4 stands for
+pub kind-known : (n : ℕ) → n ≢ 0 → n ≤ 4 → (k : Kind) × (kind_at n ≡ Some k) × (ambient_kind k ≡ eqb n 1)
+unfolding kind_at acting capability ambient_kind
+kind-known zero z h = absurd (z refl)
+kind-known (suc zero) z h = (Ambient, refl, refl)
+kind-known (suc (suc zero)) z h = (Acts cap-in, refl, refl)
+kind-known (suc (suc (suc zero))) z h = (Acts cap-out, refl, refl)
+kind-known (suc (suc (suc (suc zero)))) z h = (Acts cap-open, refl, refl)
+kind-known (suc (suc (suc (suc (suc n))))) z h = absurd (omega arith)
 
 -- a line whose kind, label and name fit together
 pub record Right (l : Line) : Type 0 where
-  pub label : label_in (is_none l.capability) l.label ≡ true
+  pub kind : Kind
+  pub known : l.kind ≡ Some kind
+  pub label : label_in (ambient_kind kind) l.label ≡ true
   pub name : l.name ≤ 63
 
 -- each line is indented by at most one step more than the one before, and the first by at most d
@@ -158,7 +162,7 @@ module _ {its : List Rec} {m d : ℕ} {above : List ℕ} (w : Stage its m d abov
 
   here-kind : (at its (suc m)).kind ≢ 0
   unfolding record_of
-  here-kind e = omega (arith, ap (λ x. x.kind) here, e, byte-low l.capability)
+  here-kind e = omega (arith, ap (λ x. x.kind) here, e, ap kind_byte r.known, byte-low r.kind)
 
   -- no record from the next on has a parent at a depth above the line's
   later : (e : ℕ) → l.depth < e → e ≤ d → (j : ℕ) → m < j → j ≤ length its → parent_of its j ≢ ab above e
@@ -243,7 +247,7 @@ module _ {its : List Rec} {m d : ℕ} {above : List ℕ} (w : Stage its m d abov
 
   here-line : line_at its (record { number = suc m; depth = l.depth }) ≡ l
   unfolding line_at record_of
-  here-line = rw here (rw (byte-back l.capability))
+  here-line = rw here (rw (byte-back l.kind))
 
 -- how a walk goes on after a visit
 pub walk-next : (its : List Rec) (n p d : ℕ) (v : Visit) → next_from its d p 0 ≡ Some v → walk_from its (suc n) p d ≡ v ∷ walk_from its n v.number (suc v.depth)

@@ -5,6 +5,7 @@ use Rattle.std.proofs.Common.{drop_of_length-le, take_at, ◌∙◌}
 use Rattle.std.proofs.Math.ListN.{get_or, length, length-drop, length-set, take}
 use Rattle.std.proofs.Math.Seq.{drop-drop, get_or-drop, take_all}
 use Rattle.std.specs.Prelude.{Option, None, Some, Result, Ok, Err}
+use Rattle.std.specs.Result.{IsErrAnd, MatchResult}
 use Rattle.std.proofs.Math.Path.{ap, sym}
 use native.Mathlib.Omega.{arith}
 use Rattle.records.specs.Written.{with_record, written, written-length, written_next, written_none}
@@ -19,6 +20,15 @@ use Rattle.text_form.specs.declared.Line.{Line}
 use Rattle.text_form.specs.declared.Cause.{Cause}
 use Rattle.text_form.specs.declared.Cause.TheVariants as cause
 use Rattle.text_form.specs.declared.Fault.{Fault}
+
+-- a value came from the same value, and an error from one that it was made of
+pub mapped-ok : {A E F : Type 0} (r : Result A E) (m : Result A F) (P : E → F → Type 0) {x : A} → MatchResult r (λ y. m ≡ Ok y) (λ e. IsErrAnd m (P e)) → m ≡ Ok x → r ≡ Ok x
+mapped-ok (Ok y) m P {x} k q = let u : y ≡ x = cc in ap Ok u
+mapped-ok (Err e) m P k q = absurd (rw q at k)
+
+pub mapped-err : {A E F : Type 0} (r : Result A E) (m : Result A F) (P : E → F → Type 0) {y : F} → MatchResult r (λ x. m ≡ Ok x) (λ e. IsErrAnd m (P e)) → m ≡ Err y → (e : E) × (r ≡ Err e) × P e y
+mapped-err (Ok x) m P k q = let u : ◌≡◌ {A = ℕ} 0 1 = cc in absurd (omega arith)
+mapped-err (Err e) m P k q = (e, refl, rw q at k)
 
 -- the scan from place p on, after k lines
 unfoldable pub rest : ℕ → List ℕ → ℕ → ℕ → ℕ → Scan

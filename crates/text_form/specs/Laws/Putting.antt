@@ -1,12 +1,13 @@
 -- Bytes put at a place.
 use Rattle.std.specs.Prelude.{◌*◌, ◌+◌, ◌≤◌, ℕ, length, replicate, List, [], ◌++◌, ◌∷◌, Bool, false, true, ◌≡◌}
+use Rattle.std.specs.Prelude.{Option, None, Some}
 use Rattle.std.proofs.Common.{length-append, append_assoc, ◌∙◌, ap, sym, arith}
 use Rattle.std.proofs.lemmas.List.{length-replicate}
 use Rattle.model.specs.Listing.{digits_in, field}
 use Rattle.text_put.specs.Puts.{Put, field_by}
 use Rattle.text_put.specs.Laws.{by-length, put_as, put_then}
-use Rattle.text_form.specs.Lines.{entry, hidden_word, indent, kind_word}
-use Rattle.text_form.specs.Parts.{fields, front}
+use Rattle.text_form.specs.Lines.{entry, hidden_word, indent, line_word}
+use Rattle.text_form.specs.Parts.{fields, numbered}
 use Rattle.text_form.specs.Writing.{mark}
 use Rattle.text_form.specs.declared.Line.{Line}
 
@@ -18,15 +19,15 @@ pub mark-not : (b : Bool) → b ≡ false → mark b ≡ []
 unfolding mark
 mark-not b e = rw e
 
-pub front-is : (b : Bool) (n : ℕ) → b ≡ true → front b n ≡ field_by n 32
-unfolding front field field_by
-front-is b n e = rw e
+pub numbered-some : (o : Option ℕ) (n : ℕ) → o ≡ Some n → numbered o ≡ field_by n 32
+unfolding numbered field field_by
+numbered-some o n e = rw e
 
-pub front-not : (b : Bool) (n : ℕ) → b ≡ false → front b n ≡ []
-unfolding front
-front-not b n e = rw e
+pub numbered-none : (o : Option ℕ) → o ≡ None → numbered o ≡ []
+unfolding numbered
+numbered-none o e = rw e
 
-pub fields-are : (l : Line) → (kind_word l.capability ++ field_by l.label 32) ++ digits_in 5 l.name ≡ fields l
+pub fields-are : (l : Line) → (line_word l.kind ++ field_by l.label 32) ++ digits_in 5 l.name ≡ fields l
 unfolding fields field field_by
 fields-are l = simp append_assoc
 
@@ -35,7 +36,7 @@ unfolding entry indent fields field
 entry-is f b l = simp append_assoc
 
 -- the lengths of the parts of a line
-pub fields-length : (l : Line) → length (fields l) ≡ length (kind_word l.capability) + (length (digits_in 5 l.label) + (1 + length (digits_in 5 l.name)))
+pub fields-length : (l : Line) → length (fields l) ≡ length (line_word l.kind) + (length (digits_in 5 l.label) + (1 + length (digits_in 5 l.name)))
 unfolding fields field
 fields-length l = simp length-append (omega arith)
 
@@ -44,7 +45,7 @@ entry_length f b l = ap length (sym (entry-is f b l)) ∙ simp (length-append, l
 
 -- the parts of a line, put one after the other
 pub fields-put : (l : Line) {t t₁ t₂ t₃ : List ℕ} {p e₁ e₂ e₃ : ℕ} → p + length (fields l) ≤ length t →
-    Put t p (kind_word l.capability) t₁ e₁ → Put t₁ e₁ (field_by l.label 32) t₂ e₂ → Put t₂ e₂ (digits_in 5 l.name) t₃ e₃ → Put t p (fields l) t₃ e₃
+    Put t p (line_word l.kind) t₁ e₁ → Put t₁ e₁ (field_by l.label 32) t₂ e₂ → Put t₂ e₂ (digits_in 5 l.name) t₃ e₃ → Put t p (fields l) t₃ e₃
 fields-put l {t} {p = p} {e₃ = e₃} h a b c =
     let o : e₃ ≤ length t = omega (arith, fields-length l, by-length l.label 32, a.end, b.end, c.end) in
     put_as (fields-are l) (put_then (put_then a b (omega (arith, c.end))) c o)

@@ -12,12 +12,12 @@ use Rattle.std.proofs.Math.Decide.{dec_lt, ℕ_discrete}
 use native.Mathlib.Omega.{arith}
 use Rattle.model.proofs.Laws.Booleans.{and_left}
 use Rattle.model.specs.Records.{byte}
-use Rattle.model.specs.declared.Capability.{Capability}
 use Rattle.text_form.specs.Laws.Lines.{number-some, numeral-0, numeral-1, numeral-2, numeral-3}
 use Rattle.text_form.specs.Lines.{kind_word}
 use Rattle.text_form.specs.Reading.{digit, digits_cause, labelled, leading, number_alone, number_read, numeral, numeral_of, starts, unworded, worded_by}
 use Rattle.text_form.specs.declared.Cause.{Cause}
 use Rattle.text_form.specs.declared.Decimal.{Decimal}
+use Rattle.text_form.specs.declared.Kind.{Kind}
 
 -- bytes that pass a test
 pub leading-inside : (test : ℕ → Bool) (s : List ℕ) → leading test s ≤ length s
@@ -137,8 +137,8 @@ unfolding number_read number_alone
 number_more missing s q e = rw (q, number_alone) (rw e)
 
 -- the kinds from number i on: the first has its word w there, or has it not, or there is none
-module _ (ks : List (Option Capability)) (i : ℕ) (d : ℕ) (s : List ℕ) where
-  module _ (z : Option Capability) {w : List ℕ} (l : i < length ks) (e : w ≡ kind_word (get_or ks i z)) where
+module _ (ks : List Kind) (i : ℕ) (d : ℕ) (s : List ℕ) where
+  module _ (z : Kind) {w : List ℕ} (l : i < length ks) (e : w ≡ kind_word (get_or ks i z)) where
     word-there : {b : Bool} → pointwise nat_eq (take (length w) s) w ≡ b → starts (kind_word (get_or ks i z)) s ≡ b
     word-there h = ap (λ x. starts x s) (sym e) ∙ starts-prefix w s ∙ h
 

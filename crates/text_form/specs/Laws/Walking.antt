@@ -3,6 +3,7 @@ use Prim.Native.Nat.{◌*◌, ◌+◌, ◌-◌, ◌/◌, ◌<◌, ◌≤◌, suc
 use Rattle.std.proofs.Common.{le-leb, length-append, ◌∙◌, sym}
 use Rattle.std.proofs.lemmas.Bool.{lt-leb}
 use Rattle.std.proofs.Math.Dec.{eqb}
+use Rattle.std.specs.Bool.{then_some}
 use Rattle.std.specs.Prelude.{leb, Bool, ◌&&◌, false, not, true, ◌≡◌}
 use Rattle.std.proofs.Math.ListN.{length}
 use mathlib.Core.List.{List, [], ◌++◌, ◌∷◌, map}
@@ -12,8 +13,7 @@ use native.Mathlib.Omega.{arith}
 use Rattle.model.specs.Finite.{Each, lowest, unequal}
 use Rattle.model.proofs.Laws.Bytes.{at-whole, length-records, valid-few, valid-whole}
 use Rattle.model.specs.Listing.{field}
-use Rattle.model.specs.Records.{at, capability, count, decode, records}
-use Rattle.model.specs.declared.Capability.{Capability}
+use Rattle.model.specs.Records.{at, count, decode, records}
 use Rattle.model.specs.declared.Capability.TheVariants.{In as cap-in, Open as cap-open, Out as cap-out}
 use Rattle.model.specs.Refusals.{content, pass, refuse}
 use Rattle.model.specs.Validity.{validity}
@@ -24,9 +24,11 @@ use Rattle.text_put.specs.Laws.{put-over, putting-end, putting-on, putting-room,
 use Rattle.text_form.specs.Laws.Identity.{next-visited, walk_end}
 use Rattle.text_form.specs.Laws.Nesting.{walk-next}
 use Rattle.text_form.specs.Laws.Putting.{entry_length, fields-length}
-use Rattle.text_form.specs.Lines.{ambient_word, entry, hidden_word, in_word, kind_word, line_bytes, open_word, out_word, render}
-use Rattle.text_form.specs.Parts.{Whole, Written, front, visit_line}
+use Rattle.text_form.specs.Lines.{ambient_word, entry, hidden_word, in_word, kind_at, kind_word, line_bytes, line_word, open_word, out_word, render}
+use Rattle.text_form.specs.Parts.{Whole, Written, front, numbered, visit_line}
 use Rattle.text_form.specs.Writing.{Length, NoRoom, Refused, TextWritten, child_or, child_over, fits, is_child, line_at, lines_of, mark, next_from, over_if, text_of, told, told_after, walk, walk_from, write_after, write_answer}
+use Rattle.text_form.specs.declared.Kind.{Kind}
+use Rattle.text_form.specs.declared.Kind.TheVariants.{Acts, Ambient}
 use Rattle.text_form.specs.declared.Visit.{Visit}
 
 -- record i as it is read
@@ -80,11 +82,19 @@ module _ (its : List Rec) (e q after : ℕ) where
   unfolding next_from child_or
   next-none l c = let u : e ≡ 0 = omega arith in rw (u, c)
 
+-- the number is shown in a listing alone
+front-numbered : (b : Bool) (n : ℕ) → numbered (then_some b n) ≡ front b n
+unfolding numbered front
+front-numbered true n = refl
+front-numbered false n = refl
+
 -- a visit is written as its line
-pub visit-is : (listed : Bool) (its shown : List Rec) (v : Visit) (r x : Rec) {k : Option Capability} {b : Bool} → r ≡ at its v.number → x ≡ at shown v.number → k ≡ capability r.kind → b ≡ eqb x.kind 0 →
-    entry (front listed v.number) (mark (listed && b)) (record { depth = v.depth; capability = k; label = r.label; name = r.name }) ≡ visit_line listed its shown v
+pub visit-is : (listed : Bool) (its shown : List Rec) (v : Visit) (r x : Rec) {o : Option ℕ} {k : Option Kind} {b : Bool} → o ≡ then_some listed v.number → r ≡ at its v.number → x ≡ at shown v.number → k ≡ kind_at r.kind → b ≡ eqb x.kind 0 →
+    entry (numbered o) (mark (listed && b)) (record { depth = v.depth; kind = k; label = r.label; name = r.name }) ≡ visit_line listed its shown v
 unfolding visit_line line_at
-visit-is listed its shown v r x e f g h = rw (g, h) (rw (e, f))
+visit-is listed its shown v r x {o = o} d e f g h =
+    let n : numbered o ≡ front listed v.number = ap numbered d ∙ front-numbered listed v.number in
+    rw n (rw (g, h) (rw (e, f)))
 
 -- how a walk goes on
 module _ (its : List Rec) (left p d : ℕ) where
@@ -107,12 +117,13 @@ unfolding walk_from
 walk_none its left p d l = let u : left ≡ 0 = omega arith in rw u
 
 -- no line is long
-word-short : (k : Option Capability) → length (kind_word k) ≤ 8
-unfolding kind_word ambient_word in_word out_word open_word
+word-short : (k : Option Kind) → length (line_word k) ≤ 8
+unfolding line_word kind_word ambient_word in_word out_word open_word
 word-short None = omega arith
-word-short (Some cap-in) = omega arith
-word-short (Some cap-out) = omega arith
-word-short (Some cap-open) = omega arith
+word-short (Some Ambient) = omega arith
+word-short (Some (Acts cap-in)) = omega arith
+word-short (Some (Acts cap-out)) = omega arith
+word-short (Some (Acts cap-open)) = omega arith
 
 pub mark-short : (b : Bool) → length (mark b) ≤ 7
 unfolding mark hidden_word
@@ -127,7 +138,7 @@ front-short false n = omega arith
 pub visit-short : (listed : Bool) (its shown : List Rec) (v : Visit) → v.depth ≤ 1024 → length (visit_line listed its shown v) ≤ 2100
 unfolding visit_line line_at
 visit-short listed its shown v h =
-    omega (arith, entry_length (front listed v.number) (mark (listed && eqb (at shown v.number).kind 0)) (line_at its v), fields-length (line_at its v), front-short listed v.number, mark-short (listed && eqb (at shown v.number).kind 0), word-short (capability (at its v.number).kind), digits-few 5 (at its v.number).label, digits-few 5 (at its v.number).name)
+    omega (arith, entry_length (front listed v.number) (mark (listed && eqb (at shown v.number).kind 0)) (line_at its v), fields-length (line_at its v), front-short listed v.number, mark-short (listed && eqb (at shown v.number).kind 0), word-short (kind_at (at its v.number).kind), digits-few 5 (at its v.number).label, digits-few 5 (at its v.number).name)
 
 -- a walk has no more visits than it may have, and none is deep
 walk-few : (its : List Rec) (n p d : ℕ) → length (walk_from its n p d) ≤ n

@@ -3,5 +3,5 @@ use Rattle.std.proofs.Common.{◌≡◌, drop}
 use Rattle.text_form.specs.Reading.{worded, worded_by}
 use Rattle.text_line.proofs.worded.Given as goal
 
-abbrev pub invariant-loop-capability : goal.invariant-loop-capability
-invariant-loop-capability l = worded l.depth l.s ≡ worded_by (drop l.capability-index l.capability-items) l.depth l.s
+abbrev pub invariant-loop-kind : goal.invariant-loop-kind
+invariant-loop-kind l = worded l.depth l.s ≡ worded_by (drop l.kind-index l.kind-items) l.depth l.s

@@ -8,6 +8,7 @@ use Rattle.text_form.specs.Reading.{visible}
 use Rattle.text_numeral.proofs.shown.Goals as goal
 
 pub returns : goal.returns
+unfolding visible
 returns c =
     let s = c.args.s.now in
     let found = position_from_yields_List (λ x. not (visible x)) _ _ c.position.result c.position.ensures.ran (YieldsList-from_slice s cc) (λ x q k. search (rules, tests)) in
