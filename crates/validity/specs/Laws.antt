@@ -1,12 +1,15 @@
 -- The checks in their order, and what they let through to be climbed.
-use Rattle.std.specs.Prelude.{◌%◌, ◌<◌, ◌≤◌, suc, zero, ℕ, leb, length, Bool, false, is_some, true, List, Option, None, Some, IfNone, ◌≡◌, refl}
-use Rattle.std.proofs.Common.{leb-true, ◌∙◌, ap, sym, arith}
+use Rattle.std.specs.Prelude.{◌%◌, ◌+◌, ◌<◌, ◌≤◌, suc, zero, ℕ, leb, length, Bool, false, is_some, true, List, Option, None, Some, IfNone, ◌≡◌, refl}
+use Rattle.std.proofs.Common.{le-leb, leb-true, true≢false, ◌∙◌, add-one, ap, sym, arith}
 use Rattle.std.proofs.Math.Decide.{dec_le, ℕ_discrete}
 use Rattle.model.specs.Climbing.{View, reaches}
+use Rattle.model.specs.Finite.{every}
 use Rattle.model.proofs.Laws.Bytes.{at-whole, length-records, size-le, size-whole, sound-record}
-use Rattle.model.proofs.Laws.Checks.{each-pass, need-make, then_next, then-refuse}
-use Rattle.model.proofs.Laws.Booleans.{and_left, and_right}
-use Rattle.model.proofs.Laws.Forest.{depth_le}
+use Rattle.model.proofs.Laws.Checks.{each-make, each-pass, need-make, then_next, then-refuse}
+use Rattle.model.proofs.Laws.Booleans.{and_left, and_right, is_false}
+use Rattle.model.proofs.Laws.Finite.{every-make, every-use}
+use Rattle.std.proofs.lemmas.Bool.{lt-leb}
+use Rattle.model.proofs.Laws.Forest.{Depth, depth_le, root, under}
 use Rattle.model.proofs.Laws.Updates.{at-over, at-root}
 use Rattle.model.proofs.Laws.Views.{depth-reaches, reaches-depth}
 use Rattle.model.specs.Records.{at, count, decode, gone, parent_of, records}
@@ -76,3 +79,29 @@ found-reaches s p i l None f g = go (reaches (records s) i) refl
     go : (b : Bool) → reaches (records s) i ≡ b → false ≡ reaches (records s) i
     go false e = sym e
     go true e = let r = reaches-depth (records s) (length (records s)) i e in absurd (g r.0 (omega (arith, r.1, length-records s)) r.2)
+
+-- whether no parent has a higher number, by the first that has one and where none has
+module _ (parent : ℕ → ℕ) (n : ℕ) where
+  pub in-order : ((k : ℕ) → k < n → parent (k + 1) ≤ k) → true ≡ every n (λ k. true) (λ k. leb (parent (k + 1)) k)
+  in-order h = sym (every-make _ _ n (λ k l e. le-leb _ _ (h k l)))
+
+  pub out-of-order : (k : ℕ) → k < n → k < parent (k + 1) → false ≡ every n (λ k. true) (λ k. leb (parent (k + 1)) k)
+  out-of-order k l h = sym (is_false _ (λ e. true≢false (sym (every-use _ _ n e k l refl) ∙ lt-leb _ _ h)))
+
+-- where no parent has a higher number every record reaches the environment
+module _ (s : List ℕ) (p : Parented s) where
+  -- by as many climbs as its number at most
+  descend : ((k : ℕ) → k < count s → (decode s (k + 1)).parent ≤ k) → (m i : ℕ) → i ≤ m → i ≤ count s → (d : ℕ) × (d ≤ i) × Depth (parent_of (records s)) i d
+  descend h m zero l c = (0, omega arith, root)
+  descend h zero (suc i) l c = absurd (omega arith)
+  descend h (suc m) (suc i) l c =
+      let e : parent_of (records s) (suc i) ≡ (decode s (i + 1)).parent = ap (λ r. r.parent) (at-whole s p.whole (suc i)) ∙ ap (λ j. (decode s j).parent) (sym (add-one i)) in
+      let q : parent_of (records s) (suc i) ≤ i = rw e (h i (omega arith)) in
+      let r = descend h m (parent_of (records s) (suc i)) (omega arith) (omega arith) in
+      (suc r.0, omega (arith, r.1), under (λ u. omega (arith, u)) r.2)
+
+  pub ordered : every (count s) (λ k. true) (λ k. leb (decode s (k + 1)).parent k) ≡ true → each_of (climb_check (records s)) 1 (count s) ≡ pass
+  unfolding climb_check reaches
+  ordered e = each-make _ 1 (count s) (λ j l m.
+      let w = descend (λ k h. leb-true _ _ (every-use _ _ _ e k h refl)) j j (omega arith) (omega arith) in
+      need-make 6 j (depth-reaches (records s) (length (records s)) w.2 (omega (arith, w.1, length-records s))))

@@ -246,6 +246,15 @@ until-all {R} {stop} {q} w h = w.whole (go (some_of 64 q stop) refl)
     go true e = let x = some_of-use q stop 64 e in absurd (true≢false (sym x.3 ∙ h x.0))
 
 -- a search that stops at high labels has met one exactly where R has one
+-- a high label in the environment's row is reached, unless the environment is a boundary
+pub first-row : (T : Table) (policy : List ℕ) {k : ℕ} → (get_or policy 0 0 ≡ 2 → ⊥) → lowest (λ k. is_high policy k && T.I 0 k) 0 64 ≡ Some k → true ≡ exposed T policy
+unfolding exposed in_r opening is_boundary
+first-row T policy {k} d e =
+    let w = lowest-some (λ j. is_high policy j && T.I 0 j) 0 64 k e in
+    let l : k < 64 = omega (arith, w.1) in
+    let o : (T.I 0 k && not (eqb (get_or policy 0 0) 2)) ≡ true = and-make (and_right (is_high policy k) _ w.2) (ap not (ne_eqb _ _ d)) in
+    sym (some_of-make _ _ 64 k l (reached-next 64 (opening T policy) 0 k (omega arith) l (reached-start 64 (opening T policy) (omega arith)) o) (and_left _ _ w.2))
+
 pub until-exposed : (T : Table) (policy : List ℕ) {high q : Set} → Until (in_r T policy) high q → Highs policy high → some_of 64 q high ≡ exposed T policy
 unfolding exposed Highs
 until-exposed T policy {high} {q} w h = go (some_of 64 q high) refl

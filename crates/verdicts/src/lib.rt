@@ -101,10 +101,16 @@ fn reach(policy: &Policy, table: &Table) -> Labels
     reach_until(policy, table, [false; 64])
 }
 
-// Whether the verdict is exposed: the search ends with the row in which the first high label is reached.
+// Whether the verdict is exposed: the search ends with the row in which the first high label is reached. The environment's own
+// row is looked at before any set is made.
 pub fn exposed(policy: &Policy, table: &Table) -> bool
     ensures { result ≡ exposed (parts (bits table.now)) policy.now }
 {
+    if policy[0] != tables::BOUNDARY {
+        if let Some(_) = lowest(|k| (policy[k] == tables::HIGH) & tables::bit(table, k)) {
+            return true;
+        }
+    }
     let high = highs(policy);
     let r = reach_until(policy, table, high);
     meets(r, high)
