@@ -1,4 +1,5 @@
-// Climbing past ambients: whether all records above are ambients.
+// Climbing past ambients: whether all records above are ambients. (That the records are whole is asked, here and in steps and
+// scripts: the bytes may be about to be written, so no type holds them.)
 #![tactic(auto)]
 
 ghost use Rattle.std.specs.Prelude.{◌≡◌, ◌%◌, length};

@@ -71,7 +71,8 @@ fn edge_at(it: &[u8], i: u16) -> Rec
     }
 }
 
-// The parent's number of a whole record.
+// The parent's number of a whole record. (Here and below it is asked that i is the number of one: a type of such numbers would be
+// made anew, at each call, of a number that a loop has.)
 pub fn parent_of(it: &[u8], i: u16) -> u16
     requires some { 1 ≤ i }
     requires whole { 8 * i ≤ length it.now }

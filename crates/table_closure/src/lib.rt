@@ -2,6 +2,7 @@
 // Row a of I is in words 2 a and 2 a + 1 of the table, row a of H in word 128 + a, S in word 192.
 // With the movers fixed a sweep closes only the rows of I that read a row which has changed. When I is closed with all its
 // movers, S is.
+// (Words and movers are two parameters, as in `table_rows`.)
 #![tactic(auto)]
 
 ghost use Rattle.std.specs.Prelude.{◌≡◌, ℕ, ◌<◌, get_or};

@@ -21,7 +21,7 @@ fn highs_hold(policy: &Policy, table: &Table) -> bool
         || tables::bit(table, tables::SUSPECTS + k))
 }
 
-// Whether a record may stand in its container and, if an ambient, bear its name.
+// Whether a record may stand in its container, a number below 64 (as in `table_rows`), and, if an ambient, bear its name.
 fn stands(r: Rec, table: &Table, container: u8) -> bool
     requires shaped { shape r ≡ true }
     requires container_bound { container < 64 }

@@ -1,4 +1,5 @@
 // The least set of suspects around a table's that has the rules of the movers; I stays as it is.
+// (A label is a number below 64, and words and movers are two parameters, as in `table_rows`.)
 #![tactic(auto)]
 
 ghost use Rattle.std.specs.Prelude.{◌≡◌, ℕ, ◌<◌, get_or};

@@ -23,7 +23,7 @@ fn origin() -> Labels
     r
 }
 
-// The set with the labels that may stand directly in x.
+// The set with the labels that may stand directly in x, a number below 64 (as in `table_rows`).
 fn with_row(table: &Table, x: usize, mut r: Labels) -> Labels
     requires { x < 64 }
     ensures { Smallest (RowReached (bits table.now) x) (marked r) (marked result) }
