@@ -8,7 +8,7 @@ pub trait Values {
 }
 
 // The reply of a call.
-pub fn reply<T: Values>(r: Result<T, Refusal>) -> Reply {
+pub(super) fn reply<T: Values>(r: Result<T, Refusal>) -> Reply {
     match r {
         Ok(x) => Reply::done(x.values()),
         Err(r) => Reply::refused(r.cause.number(), r.record),

@@ -42,7 +42,7 @@ bounds-policy-x c =
     omega (arith, (new (goal.at.bounds-policy-x c).In-Some).below, c.told-policy)
 
 pub with_row-r-requires : goal.with_row-r-requires
-with_row-r-requires c = (new (goal.at.with_row-r-requires c).In-Some).below
+with_row-r-requires c = omega (arith, (new (goal.at.with_row-r-requires c).In-Some).below)
 
 pub loop-stop-smaller-then-policy-x-ne-BOUNDARY : goal.loop-stop-smaller-then-policy-x-ne-BOUNDARY
 loop-stop-smaller-then-policy-x-ne-BOUNDARY c =
