@@ -78,6 +78,9 @@
  *  script     0 to 1,024 steps of 4 bytes: actor, partner, low byte first.
  *  answers    one byte for each step of the script.
  *  sheet      as long as the itinerary.
+ *  list       pairs of actor and partner, each 4 bytes as a step of a script.
+ *             The buffer may be longer than what hub_moves finds: n * n bytes
+ *             suffice for n records, 1,048,576 (HUB_LONGEST_LIST) for any.
  *
  * WORDS
  *
@@ -157,7 +160,7 @@
  * what is passed without `const`, as said with the call, and nothing else.
  *
  * Causes are looked for in this order, as far as the call has them: 1; then
- * record by record 2, 3, 4, 5; then 6, 7, 8, 13, 14, 9, 10, 11, 12.
+ * record by record 2, 3, 4, 5; then 6, 7, 8, 13, 14, 15, 9, 10, 11, 12.
  *
  * VERSION
  *
@@ -185,7 +188,7 @@ extern "C" {
 #endif
 
 /* The version of this header; see VERSION above. */
-#define HUB_VERSION 0x020000u
+#define HUB_VERSION 0x020100u
 
 /* Lengths in bytes, and how many records and steps there can be. */
 #define HUB_RECORD_LENGTH 8
@@ -195,6 +198,9 @@ extern "C" {
 #define HUB_ROW_LENGTH 16
 #define HUB_STEP_LENGTH 4
 #define HUB_MOST_STEPS 1024
+
+/* No list of moves is longer: those of n records have at most n * n bytes. */
+#define HUB_LONGEST_LIST 1048576
 
 /* Bytes of stack to allow for a call; see WHAT A CALLER OWES. */
 #define HUB_STACK 32768
@@ -227,7 +233,8 @@ enum {
     HUB_REFUSED_ACTIVE = 11, /* the actor is not, or moves no ambient */
     HUB_REFUSED_PARTNER = 12,
     HUB_REFUSED_SCRIPT = 13, /* or its answers */
-    HUB_REFUSED_SHEET = 14
+    HUB_REFUSED_SHEET = 14,
+    HUB_REFUSED_LIST = 15    /* shorter than the list */
 };
 
 typedef struct HubValidateResult {
@@ -260,6 +267,15 @@ typedef struct HubRunResult {
     uint32_t outs;
     uint32_t opens;
 } HubRunResult;
+
+typedef struct HubMovesResult {
+    uint32_t number;
+    uint32_t record;
+    uint32_t done;
+    uint32_t no_capability;
+    uint32_t inactive;
+    uint32_t unfit;
+} HubMovesResult;
 
 typedef struct HubCheckResult {
     uint32_t number;
@@ -359,6 +375,22 @@ HubStepResult hub_step(uint8_t *itinerary, size_t itinerary_length,
 HubRunResult hub_run(uint8_t *itinerary, size_t itinerary_length,
                      const uint8_t *script, size_t script_length,
                      uint8_t *answers, size_t answers_length);
+
+/*
+ * Lists what the bench can do next: each pair of actor and partner, both from 1
+ * to the record count, whose step would be done; and counts all such pairs by
+ * what a step of theirs would answer. No step is done.
+ * Done: the list's first 4 * `done` bytes have the pairs, each once, by actor
+ * and then by partner, low bytes first; its other bytes are as they were.
+ * `done` is how many pairs would answer 0, `no_capability` how many 10,
+ * `inactive` 11, `unfit` 12; the four add up to the record count times itself.
+ * Refuses with 1 to 6, and with 15 a list buffer that is shorter than the list:
+ * nothing is then written, and the counts are 0. So a call that is lent no
+ * bytes is done if nothing can move, and else doesn't tell how many are needed;
+ * lend as many bytes as the record count times itself.
+ */
+HubMovesResult hub_moves(const uint8_t *itinerary, size_t itinerary_length,
+                         uint8_t *list, size_t list_length);
 
 /*
  * Checks that a table holds for an itinerary and a policy.
@@ -533,6 +565,8 @@ static inline const char *hub_cause(uint32_t number)
                "a step";
     case HUB_REFUSED_SHEET:
         return "sheet not as long as the itinerary";
+    case HUB_REFUSED_LIST:
+        return "list buffer shorter than the list";
     default:
         return "unknown cause";
     }

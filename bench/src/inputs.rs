@@ -2,6 +2,7 @@
 
 use crate::timing::TURN;
 use birnsket::TABLE_LENGTH;
+use simulator::generate::examples::{far_down, runs};
 use simulator::generate::policies;
 use simulator::generate::trees::{chain, tree, Links, Mix};
 use simulator::random::Random;
@@ -16,6 +17,7 @@ pub struct Lent {
     pub script: Vec<u8>,
     pub answers: Vec<u8>,
     pub sheet: Vec<u8>,
+    pub list: Vec<u8>,
     /// A record number, or the actor of a step.
     pub number: u16,
     pub partner: u16,
@@ -38,7 +40,24 @@ impl Lent {
     pub fn bare(itinerary: &[u8], policy: &[u8], table: Vec<u8>) -> Lent {
         let (itinerary, policy) = (itinerary.to_vec(), policy.to_vec());
         let sheet = vec![0; itinerary.len()];
-        Lent { itinerary, policy, table, script: vec![], answers: vec![], sheet, number: 0, partner: 0 }
+        Lent {
+            itinerary,
+            policy,
+            table,
+            script: vec![],
+            answers: vec![],
+            sheet,
+            list: vec![],
+            number: 0,
+            partner: 0,
+        }
+    }
+
+    /// With a list buffer that is just long enough.
+    pub fn with_list(mut self) -> Lent {
+        let done = simulator::moves(&self.itinerary, &mut vec![0; LONGEST_LIST]).values[0];
+        self.list = vec![0; 4 * done as usize];
+        self
     }
 
     pub fn about(mut self, number: u16, partner: u16) -> Lent {
@@ -55,6 +74,9 @@ impl Lent {
         self
     }
 }
+
+/// 262,144 pairs.
+const LONGEST_LIST: usize = 1 << 20;
 
 fn ambient(label: usize, name: u8, parent: usize) -> Record {
     Record { kind: Kind::Ambient, label: label as u8, name, parent: parent as u16 }
@@ -192,6 +214,34 @@ pub fn opens() -> Lent {
 pub fn refused() -> Lent {
     let itinerary = chain(MOST_RECORDS, Links::LastActs(Kind::Open), false);
     Lent::of(&itinerary).about(1024, 1).with_script((0..1024).map(|_| (1024, 1)))
+}
+
+/// Eight capabilities that can each open eight of 512 ambients, and 504 that wait behind them.
+pub fn few_ready() -> Lent {
+    let mut records: Vec<Record> =
+        (0..512).map(|place| ambient(1 + place % 63, (place % 64) as u8, 0)).collect();
+    records.extend((0..8).map(|place| order(Kind::Open, 64 + place, place as u8, 0)));
+    records
+        .extend((0..504).map(|place| order(Kind::ALL[2 + place % 3], 72 + place % 56, 0, 513 + place % 8)));
+    Lent::of(&Itinerary { records }).with_list()
+}
+
+/// Half of the records can open each of the other half: the longest list.
+pub fn half_opens() -> Lent {
+    let half = MOST_RECORDS / 2;
+    Lent::of(&runs(&[(Kind::Ambient, half), (Kind::Open, half)])).with_list()
+}
+
+/// 1,024 records of one kind in the environment: each pair answers 10, or each 12.
+pub fn alike(kind: Kind) -> Lent {
+    Lent::of(&runs(&[(kind, MOST_RECORDS)]))
+}
+
+/// 512 capabilities below 511 ambients and one capability: they are found inactive at the end of a long way up.
+pub fn waiting() -> Lent {
+    let mut itinerary = far_down(512, 512);
+    itinerary.records[0] = order(Kind::Open, 64, 63, 0);
+    Lent::of(&itinerary).with_list()
 }
 
 /// One of each kind for tables.

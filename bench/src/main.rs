@@ -27,7 +27,10 @@ fn main() -> ExitCode {
             rows::print();
             println!();
             rows::print_file_order();
+            println!();
+            kept = rows::print_moves();
         }
+        ["moves"] => kept = rows::print_moves(),
         ["order"] => rows::print_file_order(),
         ["stack"] => kept = stack::print(),
         ["instructions"] => kept = instructions::print(),
@@ -39,14 +42,16 @@ fn main() -> ExitCode {
             println!();
             rows::print_file_order();
             println!();
-            kept = stack::print();
+            kept = rows::print_moves();
+            println!();
+            kept &= stack::print();
             println!();
             kept &= instructions::print();
             println!();
             oracle::print(SEED, COUNT);
         }
         _ => {
-            eprintln!("usage: bench [time|order|stack|instructions|clingo]");
+            eprintln!("usage: bench [time|order|moves|stack|instructions|clingo]");
             return ExitCode::from(2);
         }
     }

@@ -3,7 +3,8 @@
 use crate::figures::short;
 use crate::inputs::{self, Lent};
 use crate::plain::{self, skipping};
-use crate::timing::{row, Row};
+use crate::timing::{in_turns, row, Row};
+use simulator::record::Kind;
 use std::slice::from_ref;
 
 fn validate(name: &'static str, lent: &[Lent]) -> Row {
@@ -34,6 +35,15 @@ fn step(name: &'static str, lent: &[Lent]) -> Row {
         lent,
         |l| birnsket::step(&mut l.itinerary, l.number, l.partner),
         |l| plain::step(&mut l.itinerary, l.number, l.partner),
+    )
+}
+
+fn moves(name: &'static str, lent: &[Lent]) -> Row {
+    row(
+        name,
+        lent,
+        |l| birnsket::moves(&l.itinerary, &mut l.list),
+        |l| plain::moves(&l.itinerary, &mut l.list),
     )
 }
 
@@ -189,6 +199,52 @@ pub fn print_file_order() {
             row.name, ratios.0, ratios.1
         );
     }
+}
+
+/// What is asked of moves on 1,024 records: at most that many times Rust, and at most that many times a loop that
+/// compares one byte of all pairs.
+const TIMES_RUST: f64 = 1.3;
+const TIMES_LOOP: f64 = 10.0;
+
+/// Each with the times of the library and of that loop, in turns.
+fn moves_rows() -> Vec<(Row, f64, f64)> {
+    let random: Vec<Lent> = inputs::random().into_iter().map(Lent::with_list).collect();
+    let inputs: [(&'static str, Vec<Lent>); 6] = [
+        ("moves, 8 actors can act", vec![inputs::few_ready()]),
+        ("moves, random", random),
+        ("moves, 262,144 pairs listed", vec![inputs::half_opens()]),
+        ("moves, all answer 12", vec![inputs::alike(Kind::Open)]),
+        ("moves, all answer 10", vec![inputs::alike(Kind::Ambient)]),
+        ("moves, inactive at the end of a long way", vec![inputs::waiting()]),
+    ];
+    let measured = inputs.into_iter().map(|(name, lent)| {
+        let (library, bytes) = in_turns(
+            &lent,
+            |l| birnsket::moves(&l.itinerary, &mut l.list),
+            |l| plain::same_names(&l.itinerary),
+        );
+        (moves(name, &lent), library, bytes)
+    });
+    measured.collect()
+}
+
+/// Measures and prints the rows of moves; says whether they are as asked.
+pub fn print_moves() -> bool {
+    println!("| call and input | library | Rust | ratio | a byte of all pairs | ratio |");
+    println!("|---|---:|---:|---:|---:|---:|");
+    let mut kept = true;
+    for (row, again, bytes) in moves_rows() {
+        let [library, plain, other] = [row.library, row.plain, bytes].map(|time| short(time / 1000.0));
+        let ratios = (row.ratio(), again / bytes);
+        let good = ratios.0 <= TIMES_RUST && ratios.1 <= TIMES_LOOP;
+        let word = if good { "" } else { ", TOO MUCH" };
+        println!(
+            "| {} | {library} µs | {plain} µs | {:.2} | {other} µs | {:.2}{word} |",
+            row.name, ratios.0, ratios.1
+        );
+        kept &= good;
+    }
+    kept
 }
 
 /// Measures and prints all rows.

@@ -44,6 +44,9 @@ fn itineraries() -> Vec<(String, Vec<u8>)> {
     for (name, lent) in inputs::for_tables() {
         all.push((name.to_string(), lent.itinerary));
     }
+    for (name, lent) in [("moves of few", inputs::few_ready()), ("longest list", inputs::half_opens())] {
+        all.push((name.to_string(), lent.itinerary));
+    }
     all
 }
 
@@ -112,23 +115,28 @@ fn steps() -> Vec<(u16, u16)> {
     ends.iter().flat_map(|&actor| ends.map(|partner| (actor, partner))).collect()
 }
 
-/// Every itinerary with every policy and table, and with every step, alone and as a script of that step alone.
+/// Every itinerary with every policy and table, and with every step, alone and as a script of that step alone; the list
+/// buffer is just long enough, and once has no bytes.
 pub fn all() -> Vec<Shape> {
     let mut shapes = Vec::new();
     for (name, itinerary) in itineraries() {
+        let bare = Lent::bare(&itinerary, &policies::usual(), vec![0; TABLE_LENGTH]);
+        let list = bare.clone().with_list().list;
         for (policy_name, policy) in policies() {
             for (table_name, table) in tables_for(&itinerary, &policy) {
-                let lent = Lent::bare(&itinerary, &policy, table);
+                let lent = Lent { list: list.clone(), ..Lent::bare(&itinerary, &policy, table) };
                 let rest = format!("{policy_name}, {table_name}");
                 shapes.push(Shape { itinerary: name.clone(), rest, lent });
             }
         }
-        let base = Lent::bare(&itinerary, &policies::usual(), vec![0; TABLE_LENGTH]);
+        let base = Lent { list, ..bare.clone() };
         for (actor, partner) in steps() {
             let script = (0..MOST_RECORDS).map(|_| (actor, partner));
             let lent = base.clone().about(actor, partner).with_script(script);
             shapes.push(Shape { itinerary: name.clone(), rest: format!("step ({actor}, {partner})"), lent });
         }
+        let rest = "no room for a list".to_string();
+        shapes.push(Shape { itinerary: name, rest, lent: bare });
     }
     shapes
 }

@@ -45,11 +45,12 @@ fn depth(lent: &Lent, call: fn(&mut Lent) -> bool) -> usize {
 
 type Measured = (&'static str, fn(&mut Lent) -> bool);
 
-const CALLS: [Measured; 11] = [
+const CALLS: [Measured; 12] = [
     ("validate", |l| birnsket::validate(&l.itinerary).is_ok()),
     ("climb", |l| birnsket::climb(&l.itinerary, &l.policy, l.number).is_ok()),
     ("sheet", |l| birnsket::sheet(&l.itinerary, &l.table, &mut l.sheet).is_ok()),
     ("step", |l| birnsket::step(&mut l.itinerary, l.number, l.partner).is_ok()),
+    ("moves", |l| birnsket::moves(&l.itinerary, &mut l.list).is_ok()),
     ("run", |l| birnsket::run(&mut l.itinerary, &l.script, &mut l.answers).is_ok()),
     ("check", |l| birnsket::check(&l.itinerary, &l.policy, &l.table).is_ok()),
     ("make", |l| birnsket::make(&l.itinerary, &l.policy, &mut l.table).is_ok()),

@@ -51,8 +51,30 @@ fn median(mut times: Vec<u64>) -> f64 {
     (times[middle - 1] + times[middle]) as f64 / 2.0
 }
 
-/// Times both calls on the inputs in turns, after seeing that they give the same
-/// answers and buffers.
+/// Times both calls on the inputs in turns.
+pub fn in_turns<R, S>(
+    inputs: &[Lent],
+    one: impl Fn(&mut Lent) -> R,
+    other: impl Fn(&mut Lent) -> S,
+) -> (f64, f64) {
+    let mut work = inputs[0].clone();
+    let turn = || inputs.iter().cycle().take(TURN);
+    let (mut first, mut second) = (Vec::new(), Vec::new());
+    let mut turns = |time: Duration| {
+        (first.clear(), second.clear());
+        let start = Instant::now();
+        while first.len() < LEAST || (first.len() < MOST && start.elapsed() < time) {
+            first.extend(turn().map(|fresh| once(fresh, &mut work, &one)));
+            second.extend(turn().map(|fresh| once(fresh, &mut work, &other)));
+        }
+    };
+    turns(WARMING);
+    turns(TIME);
+    let overhead = overhead();
+    (median(first) - overhead, median(second) - overhead)
+}
+
+/// Times both calls, after seeing that they give the same answers and buffers.
 pub fn row<R: PartialEq + Debug>(
     name: &'static str,
     inputs: &[Lent],
@@ -64,19 +86,6 @@ pub fn row<R: PartialEq + Debug>(
         assert_eq!(library(&mut work), plain(&mut other), "{name}: answers");
         assert!(work == other, "{name}: buffers");
     }
-    let mut work = inputs[0].clone();
-    let turn = || inputs.iter().cycle().take(TURN);
-    let (mut first, mut second) = (Vec::new(), Vec::new());
-    let mut turns = |time: Duration| {
-        (first.clear(), second.clear());
-        let start = Instant::now();
-        while first.len() < LEAST || (first.len() < MOST && start.elapsed() < time) {
-            first.extend(turn().map(|fresh| once(fresh, &mut work, &library)));
-            second.extend(turn().map(|fresh| once(fresh, &mut work, &plain)));
-        }
-    };
-    turns(WARMING);
-    turns(TIME);
-    let overhead = overhead();
-    Row { name, library: median(first) - overhead, plain: median(second) - overhead }
+    let (library, plain) = in_turns(inputs, library, plain);
+    Row { name, library, plain }
 }

@@ -1,4 +1,4 @@
-//! The six buffers of the calls.
+//! The seven buffers of the calls.
 
 /// What is lent to a call; a call uses some of them.
 #[derive(Clone, Debug, Default, PartialEq, Eq)]
@@ -9,6 +9,7 @@ pub struct Buffers {
     pub script: Vec<u8>,
     pub answers: Vec<u8>,
     pub sheet: Vec<u8>,
+    pub list: Vec<u8>,
 }
 
 #[derive(Clone, Copy, Debug, PartialEq, Eq, PartialOrd, Ord)]
@@ -19,23 +20,31 @@ pub enum Buffer {
     Script,
     Answers,
     Sheet,
+    List,
 }
 
 impl Buffer {
-    pub const ALL: [Buffer; 6] =
-        [Buffer::Itinerary, Buffer::Policy, Buffer::Table, Buffer::Script, Buffer::Answers, Buffer::Sheet];
+    pub const ALL: [Buffer; 7] = [
+        Buffer::Itinerary,
+        Buffer::Policy,
+        Buffer::Table,
+        Buffer::Script,
+        Buffer::Answers,
+        Buffer::Sheet,
+        Buffer::List,
+    ];
 
     pub fn name(self) -> &'static str {
-        ["itinerary", "policy", "table", "script", "answers", "sheet"][self as usize]
+        ["itinerary", "policy", "table", "script", "answers", "sheet", "list"][self as usize]
     }
 
     pub fn named(name: &str) -> Option<Buffer> {
         Buffer::ALL.into_iter().find(|buffer| buffer.name() == name)
     }
 
-    /// The greatest length that a call may take it with.
+    /// The greatest length that a call may take it with; of the list, which may be longer, the greatest that is written.
     pub fn limit(self) -> usize {
-        [8192, 64, 1544, 4096, 1024, 8192][self as usize]
+        [8192, 64, 1544, 4096, 1024, 8192, 1 << 20][self as usize]
     }
 }
 
@@ -48,6 +57,7 @@ impl Buffers {
             Buffer::Script => &self.script,
             Buffer::Answers => &self.answers,
             Buffer::Sheet => &self.sheet,
+            Buffer::List => &self.list,
         }
     }
 
@@ -59,6 +69,7 @@ impl Buffers {
             Buffer::Script => &mut self.script,
             Buffer::Answers => &mut self.answers,
             Buffer::Sheet => &mut self.sheet,
+            Buffer::List => &mut self.list,
         }
     }
 }

@@ -11,6 +11,7 @@ pub enum Call {
     Climb(u16),
     Sheet,
     Step(u16, u16),
+    Moves,
     Run,
     Check,
     Make,
@@ -27,6 +28,7 @@ impl Call {
             Call::Climb(_) => "climb",
             Call::Sheet => "sheet",
             Call::Step(..) => "step",
+            Call::Moves => "moves",
             Call::Run => "run",
             Call::Check => "check",
             Call::Make => "make",
@@ -47,6 +49,7 @@ impl Call {
             Call::Climb(_) => &[(Itinerary, false), (Policy, false)],
             Call::Sheet => &[(Itinerary, false), (Table, false), (Sheet, true)],
             Call::Step(..) => &[(Itinerary, true)],
+            Call::Moves => &[(Itinerary, false), (List, true)],
             Call::Run => &[(Itinerary, true), (Script, false), (Answers, true)],
             Call::Check | Call::Verdict | Call::Exposed => {
                 &[(Itinerary, false), (Policy, false), (Table, false)]
@@ -78,12 +81,13 @@ fn answer(fields: &[u32]) -> Answer {
 
 /// The simulator's call.
 pub fn simulate(call: Call, lent: &mut Buffers) -> Answer {
-    let Buffers { itinerary, policy, table, script, answers, sheet } = lent;
+    let Buffers { itinerary, policy, table, script, answers, sheet, list } = lent;
     let result = match call {
         Call::Validate => simulator::validate(itinerary),
         Call::Climb(number) => simulator::climb(itinerary, policy, number),
         Call::Sheet => simulator::sheet(itinerary, table, sheet),
         Call::Step(actor, partner) => simulator::step(itinerary, actor, partner),
+        Call::Moves => simulator::moves(itinerary, list),
         Call::Run => simulator::run(itinerary, script, answers),
         Call::Check => simulator::check(itinerary, policy, table),
         Call::Make => simulator::maker(itinerary, policy, table),
@@ -93,7 +97,7 @@ pub fn simulate(call: Call, lent: &mut Buffers) -> Answer {
         Call::Screen => simulator::screen(itinerary, policy, script, answers),
     };
     let (number, record) = (u32::from(result.number), u32::from(result.record));
-    let [v0, v1, v2, v3, v4, v5] = result.values.map(u32::from);
+    let [v0, v1, v2, v3, v4, v5] = result.values;
     match call {
         // The simulator's screen gives verdict and label in one value.
         Call::Screen => answer(&[number, record, v0 / 256, v0 % 256, v1, v2, v3, v4, v5]),
@@ -111,8 +115,8 @@ macro_rules! enter {
     (@ $entry:ident, [$a:expr], [$($n:expr),*]) => {
         unsafe { raw::$entry($a.start, $a.length, $($n),*) }
     };
-    (@ $entry:ident, [$a:expr, $b:expr], [$n:expr]) => {
-        unsafe { raw::$entry($a.start, $a.length, $b.start, $b.length, $n) }
+    (@ $entry:ident, [$a:expr, $b:expr], [$($n:expr),*]) => {
+        unsafe { raw::$entry($a.start, $a.length, $b.start, $b.length, $($n),*) }
     };
     (@ $entry:ident, [$a:expr, $b:expr, $c:expr], []) => {
         unsafe { raw::$entry($a.start, $a.length, $b.start, $b.length, $c.start, $c.length) }
@@ -127,12 +131,13 @@ macro_rules! enter {
 /// The library's entry. The rooms are apart and live through the call, and only buffers
 /// that the call doesn't write overlap, so that the caller's duties are kept.
 pub fn enter(call: Call, lent: &mut Rooms) -> Answer {
-    let [it, policy, table, script, answers, sheet] = Buffer::ALL.map(|buffer| lent.part(buffer));
+    let [it, policy, table, script, answers, sheet, list] = Buffer::ALL.map(|buffer| lent.part(buffer));
     match call {
         Call::Validate => enter!(hub_validate(it) -> records),
         Call::Climb(number) => enter!(hub_climb(it, policy; number) -> label, boundary),
         Call::Sheet => enter!(hub_sheet(it, table, sheet) ->),
         Call::Step(actor, partner) => enter!(hub_step(it; actor, partner) ->),
+        Call::Moves => enter!(hub_moves(it, list) -> done, no_capability, inactive, unfit),
         Call::Run => enter!(hub_run(it, script, answers) -> ins, outs, opens),
         Call::Check => enter!(hub_check(it, policy, table) ->),
         Call::Make => enter!(hub_make(it, policy, table) -> bits),
@@ -146,7 +151,7 @@ pub fn enter(call: Call, lent: &mut Rooms) -> Answer {
 
 /// The same through the safe wrapper. Each slice is made for the one call.
 pub fn enter_safely(call: Call, lent: &mut Rooms) -> Answer {
-    let [it, policy, table, script, answers, sheet] = Buffer::ALL.map(|buffer| lent.part(buffer));
+    let [it, policy, table, script, answers, sheet, list] = Buffer::ALL.map(|buffer| lent.part(buffer));
     let done = match call {
         Call::Validate => birnsket::validate(unsafe { it.shared() }).map(|count| vec![count]),
         Call::Climb(number) => unsafe { birnsket::climb(it.shared(), policy.shared(), number) }
@@ -155,6 +160,8 @@ pub fn enter_safely(call: Call, lent: &mut Rooms) -> Answer {
             unsafe { birnsket::sheet(it.shared(), table.shared(), sheet.unique()) }.map(|()| vec![])
         }
         Call::Step(actor, partner) => birnsket::step(unsafe { it.unique() }, actor, partner).map(|()| vec![]),
+        Call::Moves => unsafe { birnsket::moves(it.shared(), list.unique()) }
+            .map(|m| vec![m.done, m.no_capability, m.inactive, m.unfit]),
         Call::Run => unsafe { birnsket::run(it.unique(), script.shared(), answers.unique()) }
             .map(|c| vec![c.ins, c.outs, c.opens]),
         Call::Check => {

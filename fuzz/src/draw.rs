@@ -13,8 +13,10 @@ use simulator::generate::relabel::Relabel;
 use simulator::generate::scripts;
 use simulator::generate::tables;
 use simulator::generate::trees::{chain, tree, Links, Mix};
+use simulator::law::Law;
 use simulator::random::Random;
-use simulator::record::{Itinerary, Kind};
+use simulator::record::{Itinerary, Kind, Record, MOST_RECORDS};
+use simulator::steps;
 use simulator::table::{Policy, POLICY_LENGTH, TABLE_LENGTH};
 
 /// Buffers, and what is needed to draw changes that fit them.
@@ -41,6 +43,8 @@ fn draw_bench(random: &mut Random, family: Family) -> (Itinerary, Policy) {
             of_mix(random, |random| Mix { records: random.between(81, 1023), ..Mix::medium(random) })
         }
         Family::Full => of_mix(random, Mix::full),
+        Family::Crowded => of_mix(random, Mix::crowded),
+        Family::Longest | Family::Long(Buffer::List) => half_opens(random),
         Family::Chain => draw_chain(random),
         Family::Empty => Itinerary { records: vec![] },
         Family::Ring => rings::some_ring(random),
@@ -61,6 +65,23 @@ fn draw_chain(random: &mut Random) -> Itinerary {
     let kind = random.pick(&[Kind::In, Kind::Out, Kind::Open]);
     let links = random.pick(&[Links::Ambients, Links::Capabilities, Links::Turns, Links::LastActs(kind)]);
     chain(random.pick(&[255, 256, 257, 1023, 1024]), links, random.chance(50))
+}
+
+/// 512 ambients and as many capabilities that can open each of them, now and then a few less; in any order or one
+/// sort behind the other.
+fn half_opens(random: &mut Random) -> Itinerary {
+    let half = MOST_RECORDS / 2;
+    let mut itinerary = examples::runs(&[(Kind::Ambient, half), (Kind::Open, half)]);
+    if random.chance(50) {
+        random.shuffle(&mut itinerary.records);
+    }
+    if random.chance(40) {
+        for _ in 0..random.between(1, 3) {
+            let place = random.below(MOST_RECORDS);
+            itinerary.records[place] = Record::GONE;
+        }
+    }
+    itinerary
 }
 
 /// Damages one in four, by a known cause or anywhere.
@@ -132,6 +153,20 @@ fn lengthen(random: &mut Random, buffer: Buffer, buffers: &mut Buffers) {
     }
 }
 
+/// Room for a list of that length, a byte too little, much too little, and more; none where it may stay as it is.
+fn draw_room(random: &mut Random, needed: usize) -> Option<usize> {
+    match random.below(16) {
+        0 => Some(0),
+        1..=2 => needed.checked_sub(1),
+        3 => needed.checked_sub(random.between(2, 8)),
+        4 => Some(random.below(needed + 1)),
+        5..=8 => Some(needed),
+        9..=12 => Some(needed + random.between(1, 9)),
+        13 => Some(needed + random.between(10, 100)),
+        _ => None,
+    }
+}
+
 impl Case {
     pub fn draw(random: &mut Random, family: Family) -> Case {
         let relabel = Relabel::draw(random);
@@ -147,17 +182,34 @@ impl Case {
         let (script, answers) = draw_script(random, climbable);
         let policy = if random.chance(8) { policies::bad(random) } else { policy.to_vec() };
         let mut bytes = itinerary.bytes();
-        if matches!(family, Family::Small | Family::Medium | Family::Large | Family::Full | Family::Hinted) {
+        if matches!(
+            family,
+            Family::Small | Family::Medium | Family::Large | Family::Full | Family::Hinted | Family::Crowded
+        ) {
             spoil(random, &mut bytes);
         }
         let sheet = vec![random.byte(); bytes.len()];
-        let mut buffers = Buffers { itinerary: bytes, policy, table, script, answers, sheet };
+        let list = vec![random.byte(); random.below(40)];
+        let mut buffers = Buffers { itinerary: bytes, policy, table, script, answers, sheet, list };
         if let Family::Long(buffer) = family {
             lengthen(random, buffer, &mut buffers);
         }
         let overlap = overlaps::overlap(random, family, &mut buffers);
         let first = buffers.itinerary.clone();
         Case { family, buffers, overlap, first, relabel }
+    }
+
+    /// Lends a list buffer of about the length that the list has, with any bytes in it. One that is to be too long
+    /// stays so.
+    pub fn fit_list(&mut self, random: &mut Random) {
+        if self.family == Family::Long(Buffer::List) {
+            return;
+        }
+        let itinerary = Itinerary::read(&self.buffers.itinerary);
+        let needed = itinerary.map_or(8, |read| 4 * steps::moves(Law::Document, &read).0.len());
+        if let Some(room) = draw_room(random, needed) {
+            self.buffers.list = (0..room).map(|_| random.byte()).collect();
+        }
     }
 
     /// How this call's buffers overlap; the inner one then has its part of the outer one.
@@ -215,7 +267,7 @@ impl Case {
     }
 
     fn any_call(&self, random: &mut Random) -> Call {
-        match random.below(110) {
+        match random.below(120) {
             0..=5 => Call::Validate,
             6..=12 => Call::Climb(self.any_number(random)),
             13..=22 => Call::Sheet,
@@ -225,7 +277,8 @@ impl Case {
             71..=76 => Call::Make,
             77..=88 => Call::Verdict,
             89..=98 => Call::Exposed,
-            99..=103 => Call::Row(if random.chance(80) { random.below(66) as u8 } else { random.byte() }),
+            99..=108 => Call::Moves,
+            109..=113 => Call::Row(if random.chance(80) { random.below(66) as u8 } else { random.byte() }),
             _ => Call::Screen,
         }
     }

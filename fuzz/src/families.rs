@@ -15,6 +15,9 @@ pub enum Family {
     Chain,
     /// Drawn for its verdict.
     Hinted,
+    /// Drawn for its moves: many, and half of 1,024 records with each of the other half.
+    Crowded,
+    Longest,
     Empty,
     Ring,
     FullRing,
@@ -32,13 +35,15 @@ pub enum Family {
 use Family::*;
 
 /// Each with how many of 4,000 cases are of it; what is left is small.
-pub const FAMILIES: [(Family, usize); 22] = [
+pub const FAMILIES: [(Family, usize); 25] = [
     (Small, 0),
     (Medium, 60),
     (Large, 8),
     (Full, 2),
     (Chain, 2),
     (Hinted, 108),
+    (Crowded, 200),
+    (Longest, 2),
     (Empty, 20),
     (Ring, 6),
     (FullRing, 4),
@@ -49,6 +54,7 @@ pub const FAMILIES: [(Family, usize); 22] = [
     (Long(Buffer::Script), 6),
     (Long(Buffer::Answers), 6),
     (Long(Buffer::Sheet), 6),
+    (Long(Buffer::List), 2),
     (PolicyInTable, 20),
     (PolicyInItinerary, 20),
     (TableInItinerary, 10),
@@ -77,6 +83,9 @@ impl Family {
             Full => "1,024 records".to_string(),
             Chain => "long chain".to_string(),
             Hinted => "drawn for the verdict".to_string(),
+            Crowded => "drawn for the moves".to_string(),
+            Longest => "the longest list of moves".to_string(),
+            Long(Buffer::List) => "list longer than any needed".to_string(),
             Empty => "empty itinerary".to_string(),
             Ring => "ring of 1 to 1,023".to_string(),
             FullRing => "ring of 1,024".to_string(),
@@ -91,10 +100,10 @@ impl Family {
         }
     }
 
-    /// Whether calls that see what makes it can be done. No row request is ever refused.
+    /// Whether calls that see what makes it can be done. No row request is ever refused, and no list too long.
     pub fn can_be_done(self) -> bool {
         !matches!(self, Ring | FullRing | TailIntoRing)
-            && (self == Long(Buffer::Table) || !matches!(self, Long(_)))
+            && (matches!(self, Long(Buffer::Table | Buffer::List)) || !matches!(self, Long(_)))
     }
 
     /// Whether the call gets to see what makes the family.
@@ -103,6 +112,7 @@ impl Family {
             Long(buffer) => call.is_lent(buffer) && lent.get(buffer).len() > buffer.limit(),
             PolicyInTable | PolicyInItinerary | TableInItinerary | ItineraryInTable | PolicyInScript
             | ScriptInPolicy => overlap.is_some(),
+            Crowded | Longest => call == Call::Moves,
             _ => call.is_lent(Buffer::Itinerary),
         }
     }

@@ -63,13 +63,16 @@ impl Fuzzer {
         for place in 0..calls {
             case.disturb(&mut self.random);
             let call = self.draw_call(&case, place == 0);
+            if call == Call::Moves {
+                case.fit_list(&mut self.random);
+            }
             let overlap = case.overlapping(call);
             let seen = case.family.is_seen_by(call, &case.buffers, overlap);
             if self.options.trace {
                 eprintln!("{}: {call:?}, {overlap:?}", case.family.name());
             }
             let answer = self.compare(call, &mut case.buffers, overlap)?;
-            self.tally.add(call, &answer, &case.buffers.answers);
+            self.tally.add(call, &answer, &case.buffers);
             if seen {
                 self.tally.add_seen(case.family, &answer);
             }

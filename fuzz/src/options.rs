@@ -6,8 +6,8 @@ use crate::tally;
 
 pub const USAGE: &str =
     "usage: fuzz [--seed N] [--calls M] [--only CALL] [--exact] [--trace] [--spoil-start BUFFER | --spoil-end BUFFER]
-  CALL is validate, climb, sheet, step, run, check, make, verdict, exposed, row or screen
-  BUFFER is itinerary, policy, table, script, answers or sheet";
+  CALL is validate, climb, sheet, step, moves, run, check, make, verdict, exposed, row or screen
+  BUFFER is itinerary, policy, table, script, answers, sheet or list";
 
 pub struct Options {
     pub seed: u64,

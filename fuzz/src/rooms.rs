@@ -7,7 +7,7 @@ use std::slice;
 const GUARD: usize = 64;
 const SHIFTS: usize = 8;
 /// The longest buffer that is drawn.
-pub const MOST: usize = 1 << 20;
+pub const MOST: usize = (1 << 20) + (1 << 12);
 
 #[derive(Clone, Copy, Debug, PartialEq, Eq)]
 pub enum Side {
@@ -130,9 +130,9 @@ impl Room {
     }
 }
 
-/// The rooms of all six buffers.
+/// The rooms of all seven buffers.
 pub struct Rooms {
-    rooms: [Room; 6],
+    rooms: [Room; 7],
     overlap: Option<Overlap>,
 }
 

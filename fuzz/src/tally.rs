@@ -1,5 +1,6 @@
 //! Counts of what was lent and answered, and what a run has to have met.
 
+use crate::buffers::{Buffer, Buffers};
 use crate::calls::{Answer, Call};
 use crate::families::{Family, FAMILIES};
 use std::collections::BTreeMap;
@@ -8,11 +9,12 @@ use std::collections::BTreeMap;
 const ENOUGH: u64 = 200_000;
 
 /// The numbers that a call can answer beside 0 and, but for the row, 1 to 6.
-const OWN_NUMBERS: [(&str, &[u32]); 11] = [
+const OWN_NUMBERS: [(&str, &[u32]); 12] = [
     ("validate", &[]),
     ("climb", &[7]),
     ("sheet", &[8, 14]),
     ("step", &[10, 11, 12]),
+    ("moves", &[15]),
     ("run", &[13]),
     ("check", &[7, 8, 9]),
     ("make", &[7, 8]),
@@ -23,6 +25,14 @@ const OWN_NUMBERS: [(&str, &[u32]); 11] = [
 ];
 const VERDICTS: [&str; 4] = ["", "exposed", "hinted", "sealed"];
 const NO_AND_YES: [&str; 2] = ["no", "yes"];
+/// What a list of moves can be in its buffer.
+const LISTS: [&str; 5] = [
+    "of no pairs",
+    "in a buffer of no bytes",
+    "as long as its buffer",
+    "with bytes behind it",
+    "as long as any",
+];
 
 /// That name, if a call has it.
 pub fn call_named(name: &str) -> Option<&'static str> {
@@ -39,6 +49,7 @@ pub struct Tally {
     steps: BTreeMap<u8, u64>,
     verdicts: BTreeMap<(&'static str, u32), u64>,
     exposed: [u64; 2],
+    lists: [u64; 5],
 }
 
 impl Tally {
@@ -53,8 +64,8 @@ impl Tally {
         *done += u64::from(answer[0] == 0);
     }
 
-    /// Counts a call; `answers` are the answer bytes as they are after it.
-    pub fn add(&mut self, call: Call, answer: &Answer, answers: &[u8]) {
+    /// Counts a call, with the buffers as they are after it.
+    pub fn add(&mut self, call: Call, answer: &Answer, after: &Buffers) {
         self.calls += 1;
         *self.numbers.entry((call.name(), answer[0])).or_default() += 1;
         if answer[0] != 0 {
@@ -66,8 +77,19 @@ impl Tally {
         if call == Call::Exposed {
             self.exposed[answer[2] as usize] += 1;
         }
+        if call == Call::Moves {
+            let (written, room) = (4 * answer[2] as usize, after.list.len());
+            let met = [
+                written == 0,
+                room == 0,
+                written == room && room > 0,
+                written < room && written > 0,
+                written == Buffer::List.limit(),
+            ];
+            self.lists.iter_mut().zip(met).for_each(|(count, met)| *count += u64::from(met));
+        }
         if matches!(call, Call::Run | Call::Screen) {
-            for &byte in answers {
+            for &byte in &after.answers {
                 *self.steps.entry(byte).or_default() += 1;
             }
         }
@@ -107,6 +129,8 @@ impl Tally {
         }
         let absent = NO_AND_YES.iter().zip(self.exposed).filter(|&(_, count)| count == 0);
         missing.extend(absent.map(|(word, _)| format!("exposed {word}")));
+        let absent = LISTS.iter().zip(self.lists).filter(|&(_, count)| count == 0);
+        missing.extend(absent.map(|(word, _)| format!("list {word}")));
         let absent = [0, 10, 11, 12].into_iter().filter(|number| !self.steps.contains_key(number));
         missing.extend(absent.map(|number| format!("step {number} of a script")));
         missing
@@ -126,6 +150,9 @@ impl Tally {
         }
         for (word, count) in NO_AND_YES.iter().zip(self.exposed) {
             println!("exposed {word} {count}");
+        }
+        for (word, count) in LISTS.iter().zip(self.lists) {
+            println!("list {word} {count}");
         }
         for (number, count) in &self.steps {
             println!("step of a script {number} {count}");
@@ -148,7 +175,7 @@ mod tests {
     fn each_family_that_was_not_seen_is_missing() {
         let mut tally = Tally::default();
         (0..=FAMILIES.len()).for_each(|_| tally.add_case());
-        tally.add(Call::Validate, &DONE, &[]);
+        tally.add(Call::Validate, &DONE, &Buffers::default());
         FAMILIES[1..].iter().for_each(|(family, _)| tally.add_seen(*family, &DONE));
         assert_eq!(tally.missing(), [FAMILIES[0].0.name()]);
         tally.add_seen(FAMILIES[0].0, &DONE);
@@ -158,10 +185,14 @@ mod tests {
     #[test]
     fn a_long_run_misses_each_answer_that_never_came() {
         let mut tally = Tally::default();
-        (0..ENOUGH).for_each(|_| tally.add(Call::Validate, &DONE, &[]));
+        let lent = Buffers::default();
+        (0..ENOUGH).for_each(|_| tally.add(Call::Validate, &DONE, &lent));
         let missing = tally.missing();
         assert!(
             missing.contains(&"validate 6".to_string()) && missing.contains(&"screen hinted".to_string())
+        );
+        assert!(
+            missing.contains(&"moves 15".to_string()) && missing.contains(&"list as long as any".to_string())
         );
         assert!(missing.contains(&"exposed 9".to_string()) && missing.contains(&"exposed yes".to_string()));
         assert!(!missing.contains(&"validate 0".to_string()));

@@ -4,7 +4,7 @@
 pub const VALUES: usize = 6;
 
 /// Values of a call that was done; places that a call does not use are 0.
-pub type Values = [u16; VALUES];
+pub type Values = [u32; VALUES];
 
 /// The number of a refusal's cause and the record it names, 0 if it names none.
 #[derive(Clone, Copy, Debug, PartialEq, Eq)]
@@ -39,7 +39,7 @@ pub fn refuse<T>(number: u8) -> Result<T, Refusal> {
 }
 
 /// Pads the values of a call that was done.
-pub fn values(used: &[u16]) -> Values {
+pub fn values(used: &[u32]) -> Values {
     let mut all = [0; VALUES];
     all[..used.len()].copy_from_slice(used);
     all

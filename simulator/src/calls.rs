@@ -50,7 +50,7 @@ fn accept(law: Law, itinerary: &[u8], policy: &[u8], table: &[u8]) -> Result<(Po
 
 pub fn validate(itinerary: &[u8]) -> Outcome {
     let itinerary = Itinerary::read(itinerary)?;
-    Ok(values(&[itinerary.count() as u16]))
+    Ok(values(&[itinerary.count() as u32]))
 }
 
 /// The container and the number of the nearest boundary ambient above; both 0 for a
@@ -63,7 +63,7 @@ pub fn climb(itinerary: &[u8], policy: &[u8], number: u16) -> Outcome {
         return Ok(values(&[]));
     }
     let container = itinerary.container(number).into();
-    Ok(values(&[container, table::boundary_above(&itinerary, &policy, number)]))
+    Ok(values(&[container, table::boundary_above(&itinerary, &policy, number).into()]))
 }
 
 pub fn sheet(itinerary: &[u8], table: &[u8], sheet: &mut [u8]) -> Outcome {
@@ -85,12 +85,25 @@ pub fn step(law: Law, itinerary: &mut [u8], actor: u16, partner: u16) -> Outcome
     Ok(values(&[]))
 }
 
+/// Writes every pair whose step would be done, if the list has room for them. The values:
+/// how many of all pairs would answer 0, 10, 11 and 12.
+pub fn moves(law: Law, itinerary: &[u8], list: &mut [u8]) -> Outcome {
+    let itinerary = Itinerary::read(itinerary)?;
+    let (pairs, tally) = steps::moves(law, &itinerary);
+    let bytes = steps::script(&pairs);
+    if list.len() < bytes.len() {
+        return refuse(15);
+    }
+    list[..bytes.len()].copy_from_slice(&bytes);
+    Ok(values(&[tally.done, tally.no_capability, tally.inactive, tally.unfit]))
+}
+
 pub fn run(law: Law, itinerary: &mut [u8], script: &[u8], answers: &mut [u8]) -> Outcome {
     let mut read = Itinerary::read(itinerary)?;
     look_at_script(script, answers)?;
     let done = steps::run(law, &mut read, script, answers);
     itinerary.copy_from_slice(&read.bytes());
-    Ok(values(&[done.ins, done.outs, done.opens]))
+    Ok(values(&[done.ins.into(), done.outs.into(), done.opens.into()]))
 }
 
 pub fn check(law: Law, itinerary: &[u8], policy: &[u8], table: &[u8]) -> Outcome {
@@ -106,19 +119,19 @@ pub fn maker(law: Law, itinerary: &[u8], policy: &[u8], table: &mut [u8]) -> Out
     }
     let made = table::least(law, &[&itinerary], &policy);
     table.copy_from_slice(&made.bytes);
-    Ok(values(&[made.ones()]))
+    Ok(values(&[made.ones().into()]))
 }
 
 pub fn verdict(law: Law, itinerary: &[u8], policy: &[u8], table: &[u8]) -> Outcome {
     let (policy, table) = accept(law, itinerary, policy, table)?;
     let (code, label) = table::verdict(&policy, &table).numbers();
-    Ok(values(&[code, label]))
+    Ok(values(&[code.into(), label.into()]))
 }
 
 /// 1 for yes, 0 for no; refused as the verdict is.
 pub fn exposed(law: Law, itinerary: &[u8], policy: &[u8], table: &[u8]) -> Outcome {
     let (policy, table) = accept(law, itinerary, policy, table)?;
-    Ok(values(&[u16::from(table::exposed(&policy, &table))]))
+    Ok(values(&[u32::from(table::exposed(&policy, &table))]))
 }
 
 /// Offset and length of the row's part of the table; 0 and 0 for the empty part.
@@ -126,7 +139,7 @@ pub fn row(table: &[u8], label: u16) -> Outcome {
     if label > 63 || table.len() != TABLE_LENGTH {
         return Ok(values(&[]));
     }
-    Ok(values(&[label * ROW_LENGTH as u16, ROW_LENGTH as u16]))
+    Ok(values(&[u32::from(label) * ROW_LENGTH as u32, ROW_LENGTH as u32]))
 }
 
 /// What the program does with its three files: table and verdict are made from
@@ -140,5 +153,6 @@ pub fn screen(law: Law, itinerary: &mut [u8], policy: &[u8], script: &[u8], answ
     let done = steps::run(law, &mut read, script, answers);
     itinerary.copy_from_slice(&read.bytes());
     let standing = read.standing() as u16;
-    Ok(values(&[code * 256 + label, made.ones(), done.ins, done.outs, done.opens, standing]))
+    let all = [code * 256 + label, made.ones(), done.ins, done.outs, done.opens, standing];
+    Ok(all.map(u32::from))
 }

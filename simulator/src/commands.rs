@@ -13,8 +13,8 @@ use std::path::Path;
 type Result<T> = std::result::Result<T, String>;
 
 const USAGE: &str = "usage: simulator COMMAND
-  cases --seed N --out DIR [--calls itinerary|table|screen] [--sample]
-  cases --seed N --check DIR [--calls itinerary|table|screen] [--sample]
+  cases --seed N --out DIR [--calls itinerary|table|screen|moves] [--sample]
+  cases --seed N --check DIR [--calls itinerary|table|screen|moves] [--sample]
   play [--change NAME] FILE...
   reducts --seed N --count M
   secrecy --seed N --count M

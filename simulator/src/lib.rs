@@ -40,6 +40,12 @@ pub fn step(itinerary: &mut [u8], actor: u16, partner: u16) -> Answer {
     calls::step(Law::Document, itinerary, actor, partner).into()
 }
 
+/// Values: how many pairs would answer 0, 10, 11 and 12. Writes the pairs of the first
+/// sort at the beginning of the list.
+pub fn moves(itinerary: &[u8], list: &mut [u8]) -> Answer {
+    calls::moves(Law::Document, itinerary, list).into()
+}
+
 /// Values: ins, outs, opens. Writes itinerary and answers.
 pub fn run(itinerary: &mut [u8], script: &[u8], answers: &mut [u8]) -> Answer {
     calls::run(Law::Document, itinerary, script, answers).into()

@@ -121,26 +121,28 @@ impl Itinerary {
         at == 0
     }
 
+    /// The record's parent, unless that is the environment.
+    fn parent(&self, number: u16) -> Option<u16> {
+        self.get(number).map(|record| record.parent).filter(|&parent| parent != 0)
+    }
+
     /// The numbers of the records above, nearest first, the environment left out.
+    fn upward(&self, number: u16) -> impl Iterator<Item = u16> + '_ {
+        std::iter::successors(self.parent(number), |&at| self.parent(at))
+    }
+
     pub fn above(&self, number: u16) -> Vec<u16> {
-        let mut found = Vec::new();
-        let mut at = self.get(number).map_or(0, |record| record.parent);
-        while at != 0 {
-            found.push(at);
-            at = self.get(at).map_or(0, |record| record.parent);
-        }
-        found
+        self.upward(number).collect()
     }
 
     /// Whether all records above are ambients; a capability is then active.
     pub fn is_under_ambients(&self, number: u16) -> bool {
-        self.above(number).into_iter().all(|above| self.is_ambient(above))
+        self.upward(number).all(|above| self.is_ambient(above))
     }
 
     /// The label of the nearest ambient above, or 0.
     pub fn container(&self, number: u16) -> u8 {
-        let above = self.above(number);
-        let nearest = above.into_iter().find(|&higher| self.is_ambient(higher));
+        let nearest = self.upward(number).find(|&higher| self.is_ambient(higher));
         nearest.and_then(|ambient| self.get(ambient)).map_or(0, |record| record.label)
     }
 }

@@ -66,6 +66,35 @@ fn dissolve(itinerary: &mut Itinerary, number: u16, parent: u16) {
     }
 }
 
+/// How many pairs of actor and partner get each answer.
+#[derive(Clone, Copy, Debug, Default, PartialEq, Eq)]
+pub struct Tally {
+    pub done: u32,
+    pub no_capability: u32,
+    pub inactive: u32,
+    pub unfit: u32,
+}
+
+/// Every pair of record numbers whose step would be done, by actor and then partner, and
+/// the answers of all pairs.
+pub fn moves(law: Law, itinerary: &Itinerary) -> (Vec<(u16, u16)>, Tally) {
+    let (mut pairs, mut tally) = (Vec::new(), Tally::default());
+    for actor in itinerary.numbers() {
+        for partner in itinerary.numbers() {
+            match answer(law, itinerary, actor, partner) {
+                0 => {
+                    pairs.push((actor, partner));
+                    tally.done += 1;
+                }
+                10 => tally.no_capability += 1,
+                11 => tally.inactive += 1,
+                _ => tally.unfit += 1,
+            }
+        }
+    }
+    (pairs, tally)
+}
+
 /// Ins, outs and opens that a run did.
 #[derive(Clone, Copy, Debug, Default, PartialEq, Eq)]
 pub struct Done {
@@ -78,6 +107,12 @@ pub struct Done {
 pub fn script_steps(script: &[u8]) -> Vec<(u16, u16)> {
     let number = |low: u8, high: u8| u16::from_le_bytes([low, high]);
     script.chunks_exact(4).map(|four| (number(four[0], four[1]), number(four[2], four[3]))).collect()
+}
+
+/// Four bytes for each actor and partner.
+pub fn script(steps: &[(u16, u16)]) -> Vec<u8> {
+    let four = |&(actor, partner): &(u16, u16)| [actor.to_le_bytes(), partner.to_le_bytes()].concat();
+    steps.iter().flat_map(four).collect()
 }
 
 /// Does each step of the script in order and writes its answer.

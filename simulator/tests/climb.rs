@@ -8,14 +8,14 @@ use simulator::random::Random;
 use simulator::record::{Itinerary, Kind, Record};
 
 /// Container and boundary of a record, in an itinerary and a policy that pass.
-fn climb(itinerary: &Itinerary, policy: &[u8], number: u16) -> (u16, u16) {
+fn climb(itinerary: &Itinerary, policy: &[u8], number: u16) -> (u32, u32) {
     let answer = simulator::climb(&itinerary.bytes(), policy, number);
     assert_eq!((answer.number, answer.record, answer.values[2..].iter().sum()), (0, 0, 0));
     (answer.values[0], answer.values[1])
 }
 
 /// Those of all records, in their order.
-fn climbs(itinerary: &Itinerary, policy: &[u8]) -> Vec<(u16, u16)> {
+fn climbs(itinerary: &Itinerary, policy: &[u8]) -> Vec<(u32, u32)> {
     itinerary.numbers().map(|number| climb(itinerary, policy, number)).collect()
 }
 
@@ -93,11 +93,11 @@ fn nothing_nearer_is_a_boundary() {
         let policy = good(random);
         for number in itinerary.numbers() {
             let (container, boundary) = climb(&itinerary, &policy, number);
-            assert_eq!(container, u16::from(itinerary.container(number)));
+            assert_eq!(container, u32::from(itinerary.container(number)));
             let parent = itinerary.records[number as usize - 1].parent;
             let above = itinerary.get(parent).copied().unwrap_or(Record::GONE);
             let is_boundary = above.kind == Kind::Ambient && policy[above.label as usize] == 2;
-            let wanted = if is_boundary { parent } else { climb(&itinerary, &policy, parent).1 };
+            let wanted = if is_boundary { parent.into() } else { climb(&itinerary, &policy, parent).1 };
             assert_eq!(boundary, wanted);
             found += usize::from(boundary != 0);
         }

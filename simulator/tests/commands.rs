@@ -24,7 +24,7 @@ fn runs_that_compare_nothing_fail() {
 #[test]
 fn a_replay_file_without_calls_fails() {
     let path = std::env::temp_dir().join(format!("no_calls_{}.cases", std::process::id()));
-    fs::write(&path, b"case\x02\0\0\0\0\0\0").unwrap();
+    fs::write(&path, b"case\x03\0\0\0\0\0\0").unwrap();
     let failed = compares_nothing(&format!("play {}", path.display()));
     fs::remove_file(&path).unwrap();
     assert!(failed);

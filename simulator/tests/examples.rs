@@ -20,7 +20,7 @@ fn usual_policy() -> Vec<u8> {
     policy
 }
 
-fn made(itinerary: &[u8], policy: &[u8]) -> (u16, Vec<u8>) {
+fn made(itinerary: &[u8], policy: &[u8]) -> (u32, Vec<u8>) {
     let mut table = vec![0xff; 1544];
     let answer = simulator::maker(itinerary, policy, &mut table);
     assert_eq!((answer.number, answer.record), (0, 0));
@@ -29,7 +29,7 @@ fn made(itinerary: &[u8], policy: &[u8]) -> (u16, Vec<u8>) {
 }
 
 /// Bits and verdict of the made table under the usual policy.
-fn judged(records: &[Four]) -> (u16, (u16, u16)) {
+fn judged(records: &[Four]) -> (u32, (u32, u32)) {
     let itinerary = itinerary(records);
     let (bits, table) = made(&itinerary, &usual_policy());
     let verdict = simulator::verdict(&itinerary, &usual_policy(), &table);
@@ -42,9 +42,9 @@ fn parent(itinerary: &[u8], number: usize) -> u16 {
     u16::from_le_bytes([itinerary[at], itinerary[at + 1]])
 }
 
-const EXPOSED: u16 = 1;
-const HINTED: u16 = 2;
-const SEALED: u16 = 3;
+const EXPOSED: u32 = 1;
+const HINTED: u32 = 2;
+const SEALED: u32 = 3;
 
 const A: [Four; 2] = [(1, 1, 0, 0), (1, 2, 1, 1)];
 

@@ -12,7 +12,7 @@ use simulator::random::Random;
 use simulator::record::Itinerary;
 use simulator::table::{least, Policy};
 
-const EXPOSED: u16 = 1;
+const EXPOSED: u32 = 1;
 
 /// What exposed says of the made table.
 fn of_made(itinerary: &Itinerary, policy: &Policy) -> bool {
@@ -98,7 +98,7 @@ fn exposed_is_the_verdicts_being_exposed() {
         let exposed = simulator::exposed(&bytes, &policy, &table);
         assert_eq!((exposed.number, exposed.record), (verdict.number, verdict.record));
         let yes = verdict.number == 0 && verdict.values[0] == EXPOSED;
-        assert_eq!(exposed.values, [u16::from(yes), 0, 0, 0, 0, 0]);
+        assert_eq!(exposed.values, [u32::from(yes), 0, 0, 0, 0, 0]);
         met[verdict.number as usize] += 1;
         verdicts[verdict.values[0] as usize] += 1;
     }

@@ -1,7 +1,10 @@
 //! Replay files play as they were written, and notice changed definitions.
 
+use simulator::generate::examples::runs;
 use simulator::law::{Law, CHANGES};
-use simulator::replay::{file, player::play, stream::HEADER, Size, SECTIONS};
+use simulator::record::Kind;
+use simulator::replay::stream::{Buffer, Call, EXPECT_PAIRS, FILL, HEADER};
+use simulator::replay::{file, player::play, writer::Writer, Size, SECTIONS};
 use simulator::secrecy::{files::faults, text};
 use std::fs;
 
@@ -35,6 +38,26 @@ fn a_damaged_file_is_an_error() {
         let mut other = bytes.clone();
         other[place] += 1;
         assert!(play(Law::Document, &other).is_err(), "byte {place} of the header");
+    }
+}
+
+/// A list of pairs that follow one another takes a few bytes, and each of its numbers matters.
+#[test]
+fn blocks_of_pairs_play() {
+    let mut writer = Writer::new();
+    writer.put(Buffer::Itinerary, &runs(&[(Kind::Ambient, 40), (Kind::Open, 40)]).bytes());
+    writer.put(Buffer::List, &[7; 6405]);
+    writer.call(Call::Moves, 0, 0);
+    let (bytes, _) = writer.finish();
+    assert_eq!(play(Law::Document, &bytes), Ok(1));
+    let at = HEADER.len() + 6 + 640;
+    assert_eq!(bytes[at..at + 7], [FILL, 7, 5, 25, 0, 0, 7]);
+    let numbers = [0, 41, 40, 1, 40].map(|number: u32| number.to_le_bytes()).concat();
+    assert_eq!(bytes[at + 7..at + 29], [&[EXPECT_PAIRS, 7][..], &numbers].concat());
+    for place in at + 7..at + 29 {
+        let mut other = bytes.clone();
+        other[place] ^= 1;
+        assert!(play(Law::Document, &other).is_err(), "byte {place}");
     }
 }
 

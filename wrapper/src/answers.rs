@@ -34,6 +34,7 @@ impl Refusal {
             12 => "partner unfit for any cause, 0 and over the count included",
             13 => "script no multiple of 4 or over 4,096, or answers not one byte a step",
             14 => "sheet not as long as the itinerary",
+            15 => "list buffer shorter than the list",
             _ => "unknown cause",
         }
     }
@@ -92,6 +93,19 @@ pub struct Counts {
     pub ins: u32,
     pub outs: u32,
     pub opens: u32,
+}
+
+/// How many pairs of actor and partner would be answered by 0, 10, 11 and 12.
+#[derive(Clone, Copy, Debug, Default, PartialEq, Eq, Hash)]
+pub struct Tally {
+    /// Those in the list.
+    pub done: u32,
+    /// The actor is no capability.
+    pub no_capability: u32,
+    /// The actor is inactive, or an in or out without an ambient as parent.
+    pub inactive: u32,
+    /// The partner is unfit for that actor.
+    pub unfit: u32,
 }
 
 /// What the screen shows: the verdict and how many bits of the least table are one,

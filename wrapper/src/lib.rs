@@ -26,10 +26,12 @@ pub mod raw;
 mod tests;
 
 use answers::done;
-pub use answers::{Above, Counts, Refusal, Screen, Verdict};
+pub use answers::{Above, Counts, Refusal, Screen, Tally, Verdict};
 
 pub const POLICY_LENGTH: usize = 64;
 pub const TABLE_LENGTH: usize = 1544;
+/// No list of moves is longer: those of n records have at most n * n bytes.
+pub const LONGEST_LIST: usize = 1048576;
 
 // Every block below but the first is sound for one reason: the pointers and lengths
 // are those of live slices, and the borrows keep written ones apart from all others.
@@ -168,6 +170,38 @@ pub fn run(itinerary: &mut [u8], script: &[u8], answers: &mut [u8]) -> Result<Co
     };
     done(result.number, result.record)?;
     Ok(Counts { ins: result.ins, outs: result.outs, opens: result.opens })
+}
+
+/// Lists each pair of actor and partner whose step would be done, by actor and then by
+/// partner, four bytes each as in a script, and counts all pairs by what they would
+/// answer. The bytes of `list` behind the list stay as they were.
+///
+/// Refuses with 1 to 6, as [`validate`]; 15 (a `list` shorter than the list). As many
+/// bytes as the record count times itself suffice.
+///
+/// ```
+/// use birnsket::{moves, Tally, Refusal};
+///
+/// let itinerary =
+///     [1, 1, 0, 0, 0, 0, 0, 0, 1, 2, 1, 0, 1, 0, 0, 0, 3, 64, 0, 0, 2, 0, 0, 0];
+/// let mut list = [7; 9];
+/// // The capability may take record 2 out of record 1, and can do nothing else.
+/// let tally = Tally { done: 1, no_capability: 6, inactive: 0, unfit: 2 };
+/// assert_eq!(moves(&itinerary, &mut list), Ok(tally));
+/// assert_eq!(list, [3, 0, 1, 0, 7, 7, 7, 7, 7]);
+/// let refusal = Refusal { number: 15, record: 0 };
+/// assert_eq!(moves(&itinerary, &mut []), Err(refusal));
+/// ```
+pub fn moves(itinerary: &[u8], list: &mut [u8]) -> Result<Tally, Refusal> {
+    let result =
+        unsafe { raw::hub_moves(itinerary.as_ptr(), itinerary.len(), list.as_mut_ptr(), list.len()) };
+    done(result.number, result.record)?;
+    Ok(Tally {
+        done: result.done,
+        no_capability: result.no_capability,
+        inactive: result.inactive,
+        unfit: result.unfit,
+    })
 }
 
 /// Checks that the table holds.

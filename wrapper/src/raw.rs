@@ -1,7 +1,7 @@
 //! The entries as the archive has them. What a caller owes is in include/birnsket.h.
 
 /// HUB_VERSION of the header that these declarations follow.
-pub const HUB_VERSION: u32 = 0x020000;
+pub const HUB_VERSION: u32 = 0x020100;
 
 /// Results: number and record 0 and the fields named where the call is done, else a refusal's number and record
 /// and zeros.
@@ -25,6 +25,7 @@ results! {
     HubSheetResult {}
     HubStepResult {}
     HubRunResult { ins, outs, opens }
+    HubMovesResult { done, no_capability, inactive, unfit }
     HubCheckResult {}
     HubMakeResult { bits }
     HubVerdictResult { verdict, label }
@@ -65,6 +66,7 @@ extern "C" {
         answers: BytesMut,
         answers_len: usize,
     ) -> HubRunResult;
+    pub fn hub_moves(it: Bytes, it_len: usize, list: BytesMut, list_len: usize) -> HubMovesResult;
     pub fn hub_check(
         it: Bytes,
         it_len: usize,

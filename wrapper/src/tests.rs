@@ -181,6 +181,56 @@ fn example_b_exposed() {
 }
 
 #[test]
+fn example_b_moves() {
+    let (itinerary, mut list) = (bytes(&B), [7; 6]);
+    let tally = Tally { done: 1, no_capability: 6, inactive: 0, unfit: 2 };
+    assert_eq!(moves(&itinerary, &mut list), Ok(tally));
+    assert_eq!(list, [3, 0, 1, 0, 7, 7]);
+    assert_eq!(moves(&itinerary, &mut list[..4]), Ok(tally));
+    list = [7; 6];
+    assert_eq!(moves(&itinerary, &mut list[..3]), Err(refusal(15, 0)));
+    assert_eq!(list, [7; 6]);
+    // Where nothing can move the empty list is long enough.
+    assert_eq!(moves(&bytes(&A), &mut []), Ok(Tally { no_capability: 4, ..Tally::default() }));
+    assert_eq!(moves(&[], &mut []), Ok(Tally::default()));
+    assert_eq!(moves(&bytes(&[(1, 1, 0, 1)]), &mut []), Err(refusal(6, 1)));
+}
+
+#[test]
+fn moves_by_actor_and_partner() {
+    // Two opens beside two ambients of their name, an out in the environment, and an open behind an open.
+    let records = [(4, 64, 5, 0), (1, 1, 5, 0), (4, 65, 5, 0), (1, 2, 5, 0), (3, 66, 5, 0), (4, 67, 5, 1)];
+    let mut list = [7; 20];
+    let tally = Tally { done: 4, no_capability: 12, inactive: 12, unfit: 8 };
+    assert_eq!(moves(&bytes(&records), &mut list), Ok(tally));
+    assert_eq!(list, [1, 0, 2, 0, 1, 0, 4, 0, 3, 0, 2, 0, 3, 0, 4, 0, 7, 7, 7, 7]);
+}
+
+#[test]
+fn moves_refused() {
+    let (itinerary, mut list) = (bytes(&B), [7; 3]);
+    let result =
+        unsafe { raw::hub_moves(itinerary.as_ptr(), itinerary.len(), list.as_mut_ptr(), list.len()) };
+    let nothing =
+        raw::HubMovesResult { number: 15, record: 0, done: 0, no_capability: 0, inactive: 0, unfit: 0 };
+    assert_eq!((result, list), (nothing, [7; 3]));
+}
+
+#[test]
+fn the_longest_list() {
+    // Each of 512 opens beside 512 ambients of its name.
+    let records: Vec<Fields> =
+        (0..1024).map(|k| if k < 512 { (4, 64, 0, 0) } else { (1, 1, 0, 0) }).collect();
+    let mut list = vec![7; LONGEST_LIST];
+    let pairs = 512 * 512;
+    let tally = Tally { done: pairs, no_capability: pairs * 2, unfit: pairs, ..Tally::default() };
+    assert_eq!(moves(&bytes(&records), &mut list), Ok(tally));
+    let wanted = (1..=512u16).flat_map(|actor| (513..=1024u16).map(move |partner| [actor, partner]));
+    assert!(wanted.flatten().flat_map(u16::to_le_bytes).eq(list));
+    assert_eq!(moves(&bytes(&records), &mut vec![7; LONGEST_LIST - 1]), Err(refusal(15, 0)));
+}
+
+#[test]
 fn example_c() {
     let records = [A[0], A[1], (4, 64, 1, 1), (1, 3, 2, 3), (3, 65, 0, 4)];
     assert_eq!(screened(&records, &usual()), (12, vec![1, 2, 3], Verdict::Hinted(1)));
@@ -258,10 +308,11 @@ fn defined(name: &str) -> &'static str {
 
 #[test]
 fn the_header_has_the_same_numbers() {
-    assert_eq!(defined("HUB_VERSION "), "0x020000u");
-    assert_eq!((raw::HUB_VERSION, version()), (0x020000, 0x020000));
+    assert_eq!(defined("HUB_VERSION "), "0x020100u");
+    assert_eq!((raw::HUB_VERSION, version()), (0x020100, 0x020100));
     assert_eq!(defined("HUB_POLICY_LENGTH "), POLICY_LENGTH.to_string());
     assert_eq!(defined("HUB_TABLE_LENGTH "), TABLE_LENGTH.to_string());
+    assert_eq!(defined("HUB_LONGEST_LIST "), LONGEST_LIST.to_string());
 }
 
 #[test]
@@ -270,9 +321,9 @@ fn the_header_has_the_same_causes() {
     // Its words in one line, and parts of a string joined.
     let words = header.split_whitespace().collect::<Vec<_>>().join(" ").replace(" \" \"", " ");
     let causes: Vec<String> =
-        (1..15).map(|n| std::format!("return \"{}\";", refusal(n, 0).cause())).collect();
+        (1..16).map(|n| std::format!("return \"{}\";", refusal(n, 0).cause())).collect();
     let found: Vec<usize> = causes.iter().map(|cause| words.find(cause.as_str()).unwrap()).collect();
     assert!(found.is_sorted());
     assert_eq!(words.matches("return \"").count(), causes.len() + 2);
-    assert!((0..100).filter(|&n| refusal(n, 0).cause() != "unknown cause").eq(1..15));
+    assert!((0..100).filter(|&n| refusal(n, 0).cause() != "unknown cause").eq(1..16));
 }

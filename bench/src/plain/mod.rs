@@ -2,12 +2,14 @@
 
 mod closure;
 mod itinerary;
+mod moves;
 mod sheet;
 pub mod skipping;
 mod steps;
 mod tables;
 
 pub use itinerary::{climb, validate};
+pub use moves::{moves, same_names};
 pub use sheet::sheet;
 pub use steps::{run, step};
 pub use tables::{check, exposed, make, passes, verdict};

@@ -27,8 +27,8 @@ fn all_ambients(itinerary: &[u8], number: u16) -> bool {
     true
 }
 
-/// The move, or 10, 11 or 12.
-fn decide(itinerary: &[u8], actor: u16, partner: u16) -> Result<Move, u8> {
+/// An actor that can act and its parent, or 10 or 11.
+pub fn ready(itinerary: &[u8], actor: u16) -> Result<(Record, Record), u8> {
     let c = Record::at(itinerary, actor);
     if !(IN..=OPEN).contains(&c.kind) {
         return Err(10);
@@ -38,6 +38,12 @@ fn decide(itinerary: &[u8], actor: u16, partner: u16) -> Result<Move, u8> {
     if !held || !all_ambients(itinerary, c.parent) {
         return Err(11);
     }
+    Ok((c, a))
+}
+
+/// The move, or 10, 11 or 12.
+fn decide(itinerary: &[u8], actor: u16, partner: u16) -> Result<Move, u8> {
+    let (c, a) = ready(itinerary, actor)?;
     let p = Record::at(itinerary, partner);
     let stands = match c.kind {
         IN => partner != c.parent && p.parent == a.parent,

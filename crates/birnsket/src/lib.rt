@@ -2,12 +2,13 @@
 #![tactic(auto, unfolding(packing::specs::Packing::version))]
 
 ghost use Rattle.std.specs.Prelude.{◌≡◌};
-ghost use Rattle.model.specs.Calls.{check_answer, climb_answer, exposed_answer, make_after, make_answer, run_after, run_answer, run_answers, screen_after, screen_answer, screen_answers, sheet_after, sheet_answer, step_after, step_answer, validate_answer, verdict_answer};
-ghost use Rattle.packing.specs.Packing.{climb_result, done_result, exposed_result, make_result, row_result, run_result, screen_result, validate_result, verdict_result, version};
+ghost use Rattle.model.specs.Calls.{check_answer, climb_answer, exposed_answer, make_after, make_answer, moves_after, moves_answer, run_after, run_answer, run_answers, screen_after, screen_answer, screen_answers, sheet_after, sheet_answer, step_after, step_answer, validate_answer, verdict_answer};
+ghost use Rattle.packing.specs.Packing.{climb_result, done_result, exposed_result, make_result, moves_result, row_result, run_result, screen_result, validate_result, verdict_result, version};
 
 use packing::climb::HubClimbResult;
 use packing::exposed::HubExposedResult;
 use packing::make::HubMakeResult;
+use packing::moves::HubMovesResult;
 use packing::row::HubRowResult;
 use packing::run::HubRunResult;
 use packing::screen::HubScreenResult;
@@ -20,7 +21,7 @@ use packing::verdict::HubVerdictResult;
 pub extern "C" fn hub_version() -> u32
     ensures { result ≡ version }
 {
-    131072
+    131328
 }
 
 // Validates an itinerary: the number of records.
@@ -65,6 +66,15 @@ pub extern "C" fn hub_run(it: &mut [u8], script: &[u8], answers: &mut [u8]) -> H
     ensures answers { answers.new ≡ run_answers it.old script.now answers.old }
 {
     calls::run(it, script, answers).into()
+}
+
+// Writes the list of moves: how many pairs of actor and partner would answer 0, 10, 11 and 12.
+#[unsafe(no_mangle)]
+pub extern "C" fn hub_moves(it: &[u8], list: &mut [u8]) -> HubMovesResult
+    ensures answer { result ≡ moves_result (moves_answer it.now list.old) }
+    ensures list { list.new ≡ moves_after it.now list.old }
+{
+    calls::moves(it, list).into()
 }
 
 // Checks a table.

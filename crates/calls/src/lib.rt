@@ -3,10 +3,10 @@
 #![tactic(auto)]
 
 ghost use Rattle.std.specs.Prelude.{◌≡◌, ◌+◌};
-ghost use Rattle.model.specs.Calls.{check_answer, climb_answer, exposed_answer, make_after, make_answer, row_of, row_start, run_after, run_answer, run_answers, screen_after, screen_answer, screen_answers, sheet_after, sheet_answer, step_after, step_answer, validate_answer, verdict_answer};
+ghost use Rattle.model.specs.Calls.{check_answer, climb_answer, exposed_answer, make_after, make_answer, moves_after, moves_answer, row_of, row_start, run_after, run_answer, run_answers, screen_after, screen_answer, screen_answers, sheet_after, sheet_answer, step_after, step_answer, validate_answer, verdict_answer};
 ghost use Rattle.model.specs.Numbers.{answer_as};
 
-use model::{Above, Counts, Refusal, Screen, Verdict};
+use model::{Above, Counts, Refusal, Screen, Tally, Verdict};
 
 // Validation: refusals 1 to 6; the number of records.
 #[tactic(auto, unfolding(model::specs::Calls::validate_answer, model::specs::Numbers::answer_as, model::specs::Numbers::check_as, model::specs::Numbers::refusal, model::specs::Refusals::answer, model::specs::Refusals::content, model::specs::Records::count))]
@@ -46,6 +46,17 @@ pub fn step(it: &mut [u8], actor: u16, partner: u16) -> Result<(), Refusal>
     validity::validity(it)?;
     steps::act(it, actor, partner)?;
     Ok(())
+}
+
+// The list of moves, written at the start of what is lent for it, and its tally: refusals 1 to 6, 15.
+#[tactic(auto, unfolding(model::specs::Calls::moves_answer, model::specs::Calls::moves_after, model::specs::Numbers::answer_as, model::specs::Numbers::check_as, model::specs::Numbers::refusal, model::specs::Refusals::answer, model::specs::Refusals::content))]
+pub fn moves(it: &[u8], list: &mut [u8]) -> Result<Tally, Refusal>
+    ensures list { list.new ≡ moves_after it.now list.old }
+    ensures answer { answer_as result ≡ moves_answer it.now list.old }
+{
+    let (valid, tally) = sequences::moving(it, list)?;
+    move_list::write(&valid, list);
+    Ok(tally)
 }
 
 // The script run.

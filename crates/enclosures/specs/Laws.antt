@@ -54,15 +54,15 @@ module _ {s policy : List ℕ} {notes₀ : List (Option Above)} where
 
   -- climbing from a record finds something, which is noted
   pub passed-next : {notes notes' : List (Option Above)} {i : ℕ} → validity s ≡ pass → i + 1 ≤ count s → Passed s policy notes₀ notes i → length notes' ≡ length notes → Noted (enclosing policy) s notes notes' →
-      get_or notes' (i + 1) None ≢ None → Passed s policy notes₀ notes' (i + 1)
-  passed-next {notes' = notes'} {i = i} v m p e n h = record {
+      {x : Above} → get_or notes' (i + 1) None ≡ Some x → Passed s policy notes₀ notes' (i + 1)
+  passed-next {notes' = notes'} {i = i} v m p e n {x} h = record {
     long = e ∙ p.long;
     noted = noted-then p.noted n;
     all = λ j l. go j l (ℕ_discrete j (i + 1));
   }
     where
       go : (j : ℕ) → j ≤ i + 1 → Dec (j ≡ i + 1) → get_or notes' j None ≢ None
-      go j l (yes q) = λ u. h (ap (λ (y : ℕ). get_or notes' y None) (sym q) ∙ u)
+      go j l (yes q) = λ u. let w : ◌≡◌ {A = Option Above} (Some x) None = sym h ∙ ap (λ (y : ℕ). get_or notes' y None) (sym q) ∙ u in cc
       go j l (no q) = n.stays j (p.all j (omega (arith, q)))
 
   -- then the lent notes are those of all

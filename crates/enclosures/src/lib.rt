@@ -63,9 +63,8 @@ pub fn enclose(it: &Itinerary, policy: &Policy, notes: &mut [Option<Above>])
     ensures { notes.new ≡ all_notes policy.now it.now notes.old }
 {
     let view = Enclosing { policy };
-    let n = it.count();
-    for i in 0..n {
-        let _ = ways::find(it.bytes, &view, notes, i + 1, n as usize);
+    for i in 0..it.count() {
+        let _ = ways::found(it.bytes, &view, notes, i + 1);
     }
 }
 
@@ -78,6 +77,5 @@ pub fn enclosure_of(it: &Itinerary, policy: &Policy, i: u16) -> Above
         return outermost();
     }
     let mut notes = notes();
-    let n = it.count() as usize;
-    ways::find(it.bytes, &Enclosing { policy }, &mut notes, parent, n).unwrap()
+    ways::found(it.bytes, &Enclosing { policy }, &mut notes, parent)
 }

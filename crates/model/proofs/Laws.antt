@@ -33,3 +33,4 @@ pub mod Finding
 pub mod Reductions
 pub mod Chains
 pub mod Adequacy
+pub mod MoveList

@@ -3,7 +3,9 @@
 use Rattle.std.specs.Prelude.{◌*◌, ℕ, eqb, leb, drop, length, take, Bool, ◌&&◌, false, true, List, []}
 use Rattle.model.specs.Analysis.{permit_all, holds}
 use Rattle.model.specs.Climbing.{enclosure}
+use Rattle.model.specs.Finite.{over}
 use Rattle.model.specs.Least.{least_table}
+use Rattle.model.specs.MoveList.{list_bytes, moves, tally_of}
 use Rattle.model.specs.Observer.{sheet_of}
 use Rattle.model.specs.Records.{count, records}
 use Rattle.model.specs.Refusals.{Answer, Check, ◌▸◌, answer, content, need, pass, refuse}
@@ -15,6 +17,7 @@ use Rattle.model.specs.Verdicts.{exposed, verdict_of}
 use Rattle.model.specs.declared.Above.{Above}
 use Rattle.model.specs.declared.Counts.{Counts}
 use Rattle.model.specs.declared.Screen.{Screen}
+use Rattle.model.specs.declared.Tally.{Tally}
 use Rattle.model.specs.declared.Verdict.{Verdict}
 
 -- validate: 1 to 6; returns the number of records
@@ -82,6 +85,20 @@ run_after s script answers = content (running s script answers) (after_list perm
 -- the lent answers after the run
 unfoldable pub run_answers : List ℕ → List ℕ → List ℕ → List ℕ
 run_answers s script answers = content (running s script answers) (answers_of permit_all s (steps_in script)) answers
+
+-- document 02, Job 3: 1 to 6, then 15, "a list buffer that is shorter than the list"
+unfoldable pub moving : List ℕ → List ℕ → Check
+moving s list =
+    validity s
+    ▸ need (leb (length (list_bytes (moves permit_all (records s)))) (length list)) 15 0
+
+-- the list's call returns the tally that stands "beside it"
+unfoldable pub moves_answer : List ℕ → List ℕ → Answer Tally
+moves_answer s list = answer (moving s list) (tally_of permit_all (records s))
+
+-- the lent list after the call: "Bytes of the buffer after the list stay unchanged."
+unfoldable pub moves_after : List ℕ → List ℕ → List ℕ
+moves_after s list = content (moving s list) (over (list_bytes (moves permit_all (records s))) list) list
 
 -- before a table is held against an itinerary: 1 to 6, 7, 8
 unfoldable pub comparing : List ℕ → List ℕ → List ℕ → Check

@@ -1,5 +1,6 @@
--- Bounded loops that compute: for every number, for some number, the lowest number, a list from its entries.
-use Rattle.std.specs.Prelude.{◌+◌, suc, zero, ℕ, eqb, Bool, false, not, true, List, [], ◌∷◌}
+-- Bounded loops that compute: for every number, for some number, the lowest number, a list from its entries or from lists, how
+-- many, a sum; a buffer whose first bytes are written; each of a list.
+use Rattle.std.specs.Prelude.{◌+◌, suc, zero, ℕ, drop, eqb, length, Bool, false, not, true, List, [], ◌++◌, ◌∷◌}
 use Rattle.std.specs.Prelude.{Option, None, Some}
 
 -- f holds of every number below n that passes the test t
@@ -22,6 +23,15 @@ unfoldable pub tabulate : {A : Type 0} → ℕ → ℕ → (ℕ → A) → List 
 tabulate i zero f = []
 tabulate i (suc n) f = f i ∷ tabulate (suc i) n f
 
+-- the lists f i, f (i + 1), .., n of them, one after another
+unfoldable pub joined : {A : Type 0} → ℕ → ℕ → (ℕ → List A) → List A
+joined i zero f = []
+joined i (suc n) f = f i ++ joined (suc i) n f
+
+-- the first bytes of a buffer t written with w, the rest as it was
+unfoldable pub over : List ℕ → List ℕ → List ℕ
+over w t = w ++ drop (length w) t
+
 -- 1 for a test that passes, 0 for one that fails
 unfoldable pub one_if : Bool → ℕ
 one_if true = 1
@@ -31,6 +41,11 @@ one_if false = 0
 unfoldable pub tally : (ℕ → Bool) → ℕ → ℕ
 tally t zero = 0
 tally t (suc n) = one_if (t (suc n)) + tally t n
+
+-- f 1 + f 2 + .. + f n
+unfoldable pub summed : (ℕ → ℕ) → ℕ → ℕ
+summed f zero = 0
+summed f (suc n) = f (suc n) + summed f n
 
 -- two numbers differ
 abbrev pub unequal : ℕ → ℕ → Bool

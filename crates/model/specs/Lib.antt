@@ -12,6 +12,7 @@ pub mod Observer
 pub mod Steps
 pub mod Verdicts
 pub mod Scripts
+pub mod MoveList
 pub mod Calls
 pub mod Numbers
 pub mod Listing

@@ -25,6 +25,7 @@ number_of cause.Active = 11
 number_of cause.Partner = 12
 number_of cause.Script = 13
 number_of cause.Sheet = 14
+number_of cause.List = 15
 
 -- the refusal of a cause that is no record's: "record 0"
 unfoldable pub unplaced : Cause → Refusal

@@ -1,11 +1,18 @@
 -- Document 02: what its Jobs promise of the calls beside their definitions, as propositions. Their proofs are in Laws.
-use Rattle.std.specs.Prelude.{◌<◌, suc, ℕ, Bool, false, true, List, ◌≢◌, ◌≡◌}
-use Rattle.model.specs.Calls.{climb_answer, exposed_answer, verdict_answer}
+use Rattle.std.specs.Prelude.{◌*◌, ◌+◌, ◌<◌, ◌≤◌, suc, ℕ, eqb, length, Bool, false, true, List, [], ◌∷◌, ◌≢◌, ◌≡◌, ◌⊎◌}
+use Rattle.std.specs.List.{Contains}
+use Rattle.model.specs.Analysis.{permit_all}
+use Rattle.model.specs.Calls.{climb_answer, exposed_answer, moves_answer, moving, step_answer, verdict_answer}
 use Rattle.model.specs.Climbing.{climb, container}
+use Rattle.model.specs.Finite.{Each, summed, tally}
+use Rattle.model.specs.MoveList.{answering, list_bytes, moves}
 use Rattle.model.specs.Noninterference.{BoundaryAt, UnderBoundary}
-use Rattle.model.specs.Records.{at, parent_of, records}
-use Rattle.model.specs.Refusals.{done, read_off}
+use Rattle.model.specs.Records.{at, count, parent_of, records}
+use Rattle.model.specs.Refusals.{done, number, pass, read_off}
+use Rattle.model.specs.Scripts.{Step, steps_in}
+use Rattle.model.specs.Validity.{validity}
 use Rattle.model.specs.declared.Above.{Above}
+use Rattle.model.specs.declared.Tally.{Tally}
 use Rattle.model.specs.declared.Verdict.{Verdict}
 use Rattle.model.specs.declared.Verdict.TheVariants.{Exposed, Hinted, Sealed}
 
@@ -35,3 +42,42 @@ pub record Encloses (s policy : List ℕ) (i : ℕ) (a : Above) : Type 0 where
 -- Job 2: "answers the container and that boundary's record number"
 abbrev pub ClimbEncloses : Type 0
 ClimbEncloses = (s policy : List ℕ) (i : ℕ) (a : Above) → climb_answer s policy i ≡ done a → Encloses s policy i a
+
+-- Job 3: "The four counts add up to the record count times itself."
+abbrev pub TallyAddsUp : Type 0
+TallyAddsUp = (s list : List ℕ) (t : Tally) → moves_answer s list ≡ done t → t.done + t.no_capability + t.inactive + t.unfit ≡ count s * count s
+
+-- Job 3: the list and the tally "beside it" agree: "four bytes each", for each pair that would answer 0
+abbrev pub ListAsTally : Type 0
+ListAsTally = (s list : List ℕ) (t : Tally) → moves_answer s list ≡ done t → length (list_bytes (moves permit_all (records s))) ≡ 4 * t.done
+
+-- Job 3: "every pair of actor and partner whose step would be done", be they any numbers: the step call is done for these alone
+abbrev pub MovesAreSteps : Type 0
+MovesAreSteps = (s : List ℕ) (c b : ℕ) → validity s ≡ pass →
+    (Contains (moves permit_all (records s)) (record { actor = c; partner = b }) → step_answer s c b ≡ done tt)
+    × (step_answer s c b ≡ done tt → Contains (moves permit_all (records s)) (record { actor = c; partner = b }))
+
+-- a pair before another "by actor and then partner"
+abbrev pub Before : Step → Step → Type 0
+Before m n = (m.actor < n.actor) ⊎ ((m.actor ≡ n.actor) × (m.partner < n.partner))
+
+-- each pair stands before all that follow it, so "each once, by actor and then partner"
+unfoldable pub Rising : List Step → Type 0
+Rising [] = Unit {0}
+Rising (m ∷ ms) = Each (Before m) ms × Rising ms
+
+-- Job 3: "each once, by actor and then partner"
+abbrev pub MovesRise : Type 0
+MovesRise = (s : List ℕ) → Rising (moves permit_all (records s))
+
+-- a buffer of n times n bytes is never too short for the list of n records, and one of 1,048,576 never for any
+abbrev pub ListFits : Type 0
+ListFits = (s list : List ℕ) → validity s ≡ pass → (count s * count s ≤ length list) ⊎ (1048576 ≤ length list) → moving s list ≡ pass
+
+-- Job 3: what "all pairs .. would answer" is the number that the step call tells
+abbrev pub TallyOfSteps : Type 0
+TallyOfSteps = (s : List ℕ) → validity s ≡ pass → (x : ℕ) → answering permit_all (records s) x ≡ summed (λ c. tally (λ b. eqb (number (step_answer s c b)) x) (count s)) (count s)
+
+-- the list's bytes are a script, whose steps are the moves
+abbrev pub ListIsScript : Type 0
+ListIsScript = (s : List ℕ) → validity s ≡ pass → steps_in (list_bytes (moves permit_all (records s))) ≡ moves permit_all (records s)

@@ -93,6 +93,7 @@ pub enum Cause {
     Partner = 12,
     Script = 13,
     Sheet = 14,
+    List = 15,
 }
 
 impl Cause {
@@ -122,6 +123,7 @@ impl fmt::Display for Cause {
             Cause::Script =>
                 "script length no multiple of 4, over 4,096, or answers not one byte a step",
             Cause::Sheet => "sheet not of the itinerary's length",
+            Cause::List => "list buffer shorter than the list",
         })
     }
 }
@@ -148,6 +150,15 @@ impl From<Cause> for Refusal {
 pub struct Above {
     pub label: u8,
     pub boundary: u16,
+}
+
+// How many pairs of actor and partner would be answered by 0, 10, 11 and 12.
+#[derive(Clone, Copy, PartialEq, Eq)]
+pub struct Tally {
+    pub done: u32,
+    pub no_capability: u32,
+    pub inactive: u32,
+    pub unfit: u32,
 }
 
 // What hubscreen shows of an itinerary: the verdict, the table's bits set, the steps done and the records not gone.

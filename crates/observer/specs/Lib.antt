@@ -1,2 +1,3 @@
 -- What the contracts cite, and laws that the proofs cite.
+pub mod Labels
 pub mod Laws

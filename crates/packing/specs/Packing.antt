@@ -6,6 +6,7 @@ use Rattle.packing.specs.declared.counts.HubCounts.{HubCounts}
 use Rattle.packing.specs.declared.exposed.HubExposedResult.{HubExposedResult}
 use Rattle.packing.specs.declared.found.HubFound.{HubFound}
 use Rattle.packing.specs.declared.make.HubMakeResult.{HubMakeResult}
+use Rattle.packing.specs.declared.moves.HubMovesResult.{HubMovesResult}
 use Rattle.packing.specs.declared.row.HubRowResult.{HubRowResult}
 use Rattle.packing.specs.declared.run.HubRunResult.{HubRunResult}
 use Rattle.packing.specs.declared.screen.HubScreenResult.{HubScreenResult}
@@ -19,11 +20,12 @@ use Rattle.model.specs.Refusals.{Answer, done, refused}
 use Rattle.model.specs.declared.Above.{Above}
 use Rattle.model.specs.declared.Counts.{Counts}
 use Rattle.model.specs.declared.Screen.{Screen}
+use Rattle.model.specs.declared.Tally.{Tally}
 use Rattle.model.specs.declared.Verdict.{Verdict}
 
--- the interface's version, major * 65,536 + minor * 256 + patch: 2.0.0
+-- the interface's version, major * 65,536 + minor * 256 + patch: 2.1.0
 unfoldable pub version : ℕ
-version = 131072
+version = 131328
 
 -- "number, record", which each result begins with
 unfoldable pub status : ℕ → ℕ → HubStatus
@@ -64,6 +66,17 @@ climb_result (refused n i) = record { status = status n i; label = 0; boundary =
 unfoldable pub run_result : Answer Counts → HubRunResult
 run_result (done c) = record { status = status 0 0; counts = counts c }
 run_result (refused n i) = record { status = status n i; counts = uncounted }
+
+-- moves: how many pairs would answer 0, 10, 11 and 12
+unfoldable pub moves_result : Answer Tally → HubMovesResult
+moves_result (done t) = record {
+  status = status 0 0;
+  done = t.done;
+  no_capability = t.no_capability;
+  inactive = t.inactive;
+  unfit = t.unfit;
+}
+moves_result (refused n i) = record { status = status n i; done = 0; no_capability = 0; inactive = 0; unfit = 0 }
 
 -- make: how many bits are one
 unfoldable pub make_result : Answer ℕ → HubMakeResult

@@ -1,35 +1,22 @@
 // Refusals 2 to 5: what makes each record right by itself and by its parent's place.
 #![tactic(auto)]
 
-ghost use Rattle.std.specs.Prelude.{◌≡◌};
+ghost use Rattle.std.specs.Prelude.{◌≡◌, ◌*◌, ◌≤◌, IfOk, length};
 ghost use Rattle.model.specs.Numbers.{answer_as, check_as};
 ghost use Rattle.model.specs.Records.{decode};
 ghost use Rattle.model.specs.Refusals.{answer, each_of};
 ghost use Rattle.model.specs.Validity.{gone_right, label_in, label_right, name_right, parent_right, record_check, spare_right};
-ghost use Rattle.record_checks.specs.Reading.{form_right};
+ghost use Rattle.record_checks.specs.Reading.{form_right, in_order};
 
 use model::{Cause, Rec, Refusal};
 
-// Whether the spare bytes of record i are zero, byte by byte, as `edge_at` and for the same reason.
-#[tactic(auto, unfolding(model::specs::Validity::spare_right))]
-fn spare_edge(it: &[u8], i: u16) -> bool
-    ensures { result ≡ spare_right it.now i }
-{
-    (records::byte_of(it, i, 3) == 0)
-        & ((records::byte_of(it, i, 6) == 0) & (records::byte_of(it, i, 7) == 0))
-}
-
-// Whether the spare bytes of record i are zero.
+// Whether the spare bytes of a whole record are zero.
 fn spare_right(it: &[u8], i: u16) -> bool
+    requires some { 1 ≤ i }
+    requires whole { 8 * i ≤ length it.now }
     ensures { result ≡ spare_right it.now i }
 {
-    if i == 0 {
-        return spare_edge(it, i);
-    }
     let at = 8 * ((i as usize) - 1);
-    if it.len() < at + 8 {
-        return spare_edge(it, i);
-    }
     (it[at + 3] == 0) & ((it[at + 6] == 0) & (it[at + 7] == 0))
 }
 
@@ -84,23 +71,27 @@ fn parent_right(it: &[u8], p: u16) -> bool
     if p == 0 {
         return true;
     }
-    ((p as usize) <= it.len() / 8) & (records::byte_of(it, p, 0) != 0)
+    ((p as usize) <= it.len() / 8) && (it[8 * ((p as usize) - 1)] != 0)
 }
 
-// Whether record i has none of the faults of refusal 2.
+// Whether record i, which is whole, has none of the faults of refusal 2.
 #[tactic(auto, unfolding(crate::specs::Reading::form_right, model::specs::Validity::kind_right))]
 fn form_right(it: &[u8], i: u16, r: Rec) -> bool
+    requires some { 1 ≤ i }
+    requires whole { 8 * i ≤ length it.now }
     ensures { result ≡ form_right it.now i r }
 {
     (r.kind <= 4) & (spare_right(it, i) & gone_right(r))
 }
 
-// Record i, or the first refusal of 2 to 5 that it gives.
+// Record i, which is whole, or the first refusal of 2 to 5 that it gives.
 #[tactic(auto, unfolding(model::specs::Numbers::answer_as, model::specs::Numbers::check_as, model::specs::Numbers::refusal, model::specs::Numbers::number_of, model::specs::Refusals::answer, model::specs::Refusals::and_then, model::specs::Refusals::need, model::specs::Validity::record_check, crate::specs::Reading::form_right))]
 fn read_record(it: &[u8], i: u16) -> Result<Rec, Refusal>
+    requires some { 1 ≤ i }
+    requires whole { 8 * i ≤ length it.now }
     ensures { answer_as result ≡ answer (record_check it.now i) (decode it.now i) }
 {
-    let r = records::record_at(it, i);
+    let r = records::record_in(it, i);
     gates::need(form_right(it, i, r), Cause::Form, i)?;
     gates::need(label_right(r), Cause::Label, i)?;
     gates::need(name_right(r), Cause::Name, i)?;
@@ -108,12 +99,17 @@ fn read_record(it: &[u8], i: u16) -> Result<Rec, Refusal>
     Ok(r)
 }
 
-// Refusals 2 to 5 of the first n records.
-pub fn read_all(it: &[u8], n: u16) -> Result<(), Refusal>
-    ensures { check_as result ≡ each_of (record_check it.now) 1 n }
+// Refusals 2 to 5 of the first n records, and whether none of them has a parent with a higher number, as in an itinerary that was
+// written from the top down.
+pub fn read_all(it: &[u8], n: u16) -> Result<bool, Refusal>
+    requires { 8 * n ≤ length it.now }
+    ensures checks { check_as result ≡ each_of (record_check it.now) 1 n }
+    ensures order { IfOk result (λ ordered. ordered ≡ in_order it.now n) }
 {
+    let mut ordered = true;
     for i in 0..n {
-        read_record(it, i + 1)?;
+        let r = read_record(it, i + 1)?;
+        ordered = (r.parent <= i) & ordered;
     }
-    Ok(())
+    Ok(ordered)
 }

@@ -58,8 +58,10 @@ pub fn word(low: u8, high: u8) -> u16
     u16::from_le_bytes([low, high])
 }
 
-// Record i byte by byte, for the environment and past the last whole record. (The one form for all records would test the
-// length for each byte; `record_at` is the most frequent call of all.)
+// Record i byte by byte, past the last whole record. (The one form for all records would test the length for each byte;
+// `record_at` is the most frequent call of all, and this part of it, which no record of an itinerary needs, is kept out of the way.)
+#[cold]
+#[inline(never)]
 fn edge_at(it: &[u8], i: u16) -> Rec
     ensures { result ≡ decode it.now i }
 {
@@ -102,7 +104,7 @@ pub fn record_at(it: &[u8], i: u16) -> Rec
     ensures { result ≡ decode it.now i }
 {
     if i == 0 {
-        return edge_at(it, i);
+        return gone();
     }
     if it.len() / 8 < (i as usize) {
         return edge_at(it, i);

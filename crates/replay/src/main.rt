@@ -5,7 +5,7 @@ use crate::results::reply;
 use replay_buffers::Memory;
 use replay_cases::{Call, Case, Fault};
 use replay_compare::{Reply, Tally};
-use std::io::Read;
+use std::alloc::Global;
 use std::rt::Files;
 
 mod results;
@@ -27,6 +27,7 @@ fn answer(case: Case, memory: &mut Memory) -> Option<Reply> {
         script,
         answers,
         sheet,
+        list,
     } = memory;
     let (x, y) = (case.x, case.y);
     Some(match case.call? {
@@ -66,6 +67,7 @@ fn answer(case: Case, memory: &mut Memory) -> Option<Reply> {
             policy.content(),
             table.content(),
         )),
+        Call::Moves => reply(calls::moves(itinerary.content(), list.content_mut())),
     })
 }
 
@@ -75,12 +77,13 @@ fn is_as_wanted(case: Case, memory: &mut Memory) -> bool {
     memory.as_wanted(got, case.want)
 }
 
-// The calls of a file, up to its end, to what is no case, or to one that differs; at most a million. (What a call that
-// differs has left is no start for the next.)
-fn replay(file: &mut impl Read, tally: &mut Tally) -> Result<(), Fault> {
-    let mut memory = Memory::new();
+// The calls of a file, with a memory of its own, up to its end, to what is no case, or to one that differs; at most a million.
+// (What a call that differs has left is no start for the next.)
+fn replay(rt: &impl Files, alloc: Global, name: &[u8], tally: &mut Tally) -> Result<(), Fault> {
+    let mut file = replay_cases::open(rt, name)?;
+    let mut memory = Memory::new(alloc);
     for _ in 0..1000000 {
-        let Some(case) = replay_cases::next_case(file, &mut memory)? else {
+        let Some(case) = replay_cases::next_case(&mut file, &mut memory)? else {
             return Ok(());
         };
         let right = is_as_wanted(case, &mut memory);
@@ -92,15 +95,15 @@ fn replay(file: &mut impl Read, tally: &mut Tally) -> Result<(), Fault> {
     Err(Fault)
 }
 
-// A file, with a memory of its own.
-fn play(rt: &(impl Files + Print), name: &[u8]) {
+fn play(rt: &(impl Files + Print), alloc: Global, name: &[u8]) {
     let mut tally = Tally::default();
-    let ended = replay_cases::open(rt, name).and_then(|mut file| replay(&mut file, &mut tally));
+    let ended = replay(rt, alloc, name, &mut tally);
     replay_cases::finish(rt, name, tally, ended);
 }
 
 fn main(rt: HostRuntime) {
-    play(&rt, b"itinerary.cases");
-    play(&rt, b"table.cases");
-    play(&rt, b"screen.cases");
+    play(&rt, rt.alloc(), b"itinerary.cases");
+    play(&rt, rt.alloc(), b"table.cases");
+    play(&rt, rt.alloc(), b"screen.cases");
+    play(&rt, rt.alloc(), b"moves.cases");
 }

@@ -1,5 +1,5 @@
 // What each call answers, as stored cases have it: number and record of a refusal, or the values of a call that is done.
-use model::{Above, Counts, Refusal, Screen, Verdict};
+use model::{Above, Counts, Refusal, Screen, Tally, Verdict};
 use replay_compare::Reply;
 
 // What a call returns, as up to six values; the others are 0.
@@ -45,6 +45,18 @@ impl Values for Counts {
     fn values(self) -> [u32; 6] {
         let Counts { ins, outs, opens } = self;
         [ins as u32, outs as u32, opens as u32, 0, 0, 0]
+    }
+}
+
+impl Values for Tally {
+    fn values(self) -> [u32; 6] {
+        let Tally {
+            done,
+            no_capability,
+            inactive,
+            unfit,
+        } = self;
+        [done, no_capability, inactive, unfit, 0, 0]
     }
 }
 

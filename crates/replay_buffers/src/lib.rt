@@ -1,33 +1,31 @@
 // The buffers of a replay, each with its shadow, and the answers and bits of stored cases. (The format of a file of cases is in
 // simulator/README.md.)
-#![tactic(auto, using(model::proofs::Laws::Bit::one_shl), unfolding(crate::specs::Storing::empty_buffer, crate::specs::Storing::empty_memory, crate::specs::Storing::with_len, crate::specs::Storing::as_it_is, crate::specs::Storing::content_of, crate::specs::Storing::shadow_of, crate::specs::Storing::buffer_right, crate::specs::Storing::as_wanted, crate::specs::Storing::buffer_of, crate::specs::Storing::bytes_at, crate::specs::Storing::decoded, crate::specs::Storing::value, crate::specs::Storing::turned, crate::specs::Storing::raised, replay_compare::specs::Comparing::agreeing))]
+#![tactic(auto, using(model::proofs::Laws::Bit::one_shl), unfolding(crate::specs::Storing::IsEmpty, crate::specs::Storing::IsEmptyMemory, crate::specs::Storing::IsFull, crate::specs::Storing::StaysAsItIs, crate::specs::Storing::copied, crate::specs::Storing::buffer_right, crate::specs::Storing::as_wanted, crate::specs::Storing::buffer_of, crate::specs::Storing::bytes_at, crate::specs::Storing::decoded, crate::specs::Storing::value, crate::specs::Storing::turned, crate::specs::Storing::raised, replay_compare::specs::Comparing::agreeing))]
 
-ghost use Rattle.std.specs.Prelude.{◌++◌, ◌≡◌, ◌<◌, ◌≤◌, drop, option_map, take};
-ghost use Rattle.replay_buffers.specs.Storing.{as_it_is, as_wanted, buffer_of, buffer_right, bytes_at, content_of, decoded, empty_buffer, empty_memory, raised, shadow_of, turned, value, with_len};
+ghost use Rattle.std.specs.Prelude.{◌≡◌, ◌<◌, ◌≤◌, option_map, take, OnOk};
+ghost use Rattle.replay_buffers.specs.Storing.{IsFull, IsEmpty, IsEmptyMemory, StaysAsItIs, as_wanted, buffer_of, buffer_right, bytes_at, copied, decoded, raised, turned, value};
 
 use replay_compare::Reply;
+use std::alloc::{AllocError, Global};
 
-// A buffer: its content, and its shadow, which is what the content has to be after the next call. Each is the first `len`
-// bytes of its array, at most `size`. (The memory is fixed: each array is as long as the longest content of a case, so that
-// how many bytes there are stands beside it.)
+// A buffer: its content, and its shadow, which is what the content has to be after the next call. Each may have at most `size`
+// bytes. (They are on the heap: a list of moves may have a megabyte.)
 #[derive(Drop)]
 pub struct Buffer {
-    content: [u8; 8264],
-    shadow: [u8; 8264],
+    content: Vec<u8>,
+    shadow: Vec<u8>,
     size: usize,
-    len: usize,
 }
 
 impl Buffer {
     // A buffer with no bytes in it yet.
-    pub fn new(size: usize) -> Buffer
-        ensures { result ≡ empty_buffer size }
+    pub fn new(alloc: Global, size: usize) -> Buffer
+        ensures { IsEmpty size result }
     {
         Buffer {
-            content: [0; 8264],
-            shadow: [0; 8264],
+            content: Vec::new(alloc),
+            shadow: Vec::new(alloc),
             size,
-            len: 0,
         }
     }
 
@@ -38,51 +36,52 @@ impl Buffer {
         self.size
     }
 
-    // Gives it n bytes: those that stood there before.
-    pub fn set_len(&mut self, n: usize)
+    // Gives content and shadow n bytes, each the one given.
+    pub fn set_all(&mut self, n: usize, byte: u8) -> Result<(), AllocError>
         requires { n ≤ self.old.size }
-        ensures { self.new ≡ with_len n self.old }
+        ensures { OnOk result (IsFull n byte self.old self.new) }
     {
-        self.len = n;
+        self.content.clear();
+        self.content.resize(n, byte)?;
+        self.shadow.clear();
+        self.shadow.resize(n, byte)?;
+        Ok(())
     }
 
     // The bytes that it has.
     pub fn content(&self) -> &[u8]
-        ensures { result.now ≡ content_of self.now }
+        ensures { result.now ≡ self.now.content.items }
     {
-        place(&self.content, 0, self.len)
+        &self.content
     }
 
     // The same, lent to a call that writes them. (A method for each of content and shadow: with the one of them named by a
     // parameter, the contract would be by cases of it.)
     pub fn content_mut(&mut self) -> &mut [u8]
-        ensures { result.now ≡ content_of self.old }
+        ensures { result.now ≡ self.old.content.items }
     {
-        let n = self.len;
-        place_mut(&mut self.content, 0, n)
+        self.content.as_mut_slice()
     }
 
     // What they have to be after the next call.
     pub fn shadow_mut(&mut self) -> &mut [u8]
-        ensures { result.now ≡ shadow_of self.old }
+        ensures { result.now ≡ self.old.shadow.items }
     {
-        let n = self.len;
-        place_mut(&mut self.shadow, 0, n)
+        self.shadow.as_mut_slice()
     }
 
     // Has its content stay as it is.
     pub fn want_content(&mut self)
-        ensures { self.new ≡ as_it_is self.old }
+        ensures { StaysAsItIs self.old self.new }
     {
-        let n = self.len;
-        copy(&self.content, &mut self.shadow, n);
+        copy(self.content.as_slice(), self.shadow.as_mut_slice());
     }
 
-    // Whether it has the bytes that it has to have, and those behind them are as they were.
+    // Whether it has the bytes that it has to have.
     pub fn is_as_wanted(&self) -> bool
         ensures { result ≡ buffer_right self.now }
     {
-        self.content[..] == self.shadow[..]
+        self.content.as_slice() == self.shadow.as_slice()
     }
 }
 
@@ -101,11 +100,11 @@ fn first_mut(s: &mut [u8], n: usize) -> &mut [u8]
     &mut s[..n]
 }
 
-// Copies the first n bytes, or all of them where n is greater.
-fn copy(from: &[u8; 8264], to: &mut [u8; 8264], n: usize)
-    ensures { to.new ≡ take n from.now ++ drop n to.old }
+// Copies as many bytes as both have.
+pub fn copy(from: &[u8], to: &mut [u8])
+    ensures { to.new ≡ copied from.now to.old }
 {
-    let n = n.min(8264);
+    let n = from.len().min(to.len());
     to[..n].copy_from_slice(&from[..n]);
 }
 
@@ -133,20 +132,22 @@ pub struct Memory {
     pub script: Buffer,
     pub answers: Buffer,
     pub sheet: Buffer,
+    pub list: Buffer,
 }
 
 impl Memory {
     // All buffers, with no bytes in them yet, each with the most that a case may set it to.
-    pub fn new() -> Memory
-        ensures { result ≡ empty_memory }
+    pub fn new(alloc: Global) -> Memory
+        ensures { IsEmptyMemory result }
     {
         Memory {
-            itinerary: Buffer::new(8264),
-            policy: Buffer::new(80),
-            table: Buffer::new(1560),
-            script: Buffer::new(4104),
-            answers: Buffer::new(1032),
-            sheet: Buffer::new(8264),
+            itinerary: Buffer::new(alloc, 8264),
+            policy: Buffer::new(alloc, 80),
+            table: Buffer::new(alloc, 1560),
+            script: Buffer::new(alloc, 4104),
+            answers: Buffer::new(alloc, 1032),
+            sheet: Buffer::new(alloc, 8264),
+            list: Buffer::new(alloc, 1048600),
         }
     }
 
@@ -161,6 +162,7 @@ impl Memory {
             4 => Some(&mut self.script),
             5 => Some(&mut self.answers),
             6 => Some(&mut self.sheet),
+            7 => Some(&mut self.list),
             _ => None,
         }
     }
@@ -175,6 +177,7 @@ impl Memory {
             && self.table.is_as_wanted()
             && self.answers.is_as_wanted()
             && self.sheet.is_as_wanted()
+            && self.list.is_as_wanted()
     }
 }
 

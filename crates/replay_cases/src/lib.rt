@@ -10,7 +10,7 @@ use std::fs::File;
 use std::io::Read;
 use std::rt::Files;
 
-// What a file has is no case, or it ends before its end command.
+// What a file has is no case, or it ends before its end command; or there is no memory for what it sets.
 #[derive(Clone, Copy)]
 pub struct Fault;
 
@@ -28,6 +28,7 @@ pub enum Call {
     Row,
     Screen,
     Exposed,
+    Moves,
 }
 
 impl TryFrom<u8> for Call {
@@ -48,6 +49,7 @@ impl TryFrom<u8> for Call {
             24 => Call::Row,
             25 => Call::Screen,
             26 => Call::Exposed,
+            27 => Call::Moves,
             _ => return Err(Fault),
         })
     }
@@ -89,9 +91,12 @@ enum Change {
     WantBytes,
     WantZeros,
     WantBits,
+    WantPairs,
+    Fill,
 }
 
-// What a file is made of: a change of a buffer by a count, or a call with how many values it gives and its arguments.
+// What a file is made of: a change of a buffer by a count (or from a place on), or a call with how many values it gives and its
+// arguments.
 #[derive(Clone, Copy)]
 enum Command {
     End,
@@ -111,6 +116,8 @@ fn next_command(file: &mut impl Read) -> Result<Command, Fault> {
         6 => Command::Prepare(Change::WantBytes, small, n),
         7 => Command::Prepare(Change::WantZeros, small, n),
         8 => Command::Prepare(Change::WantBits, small, n),
+        9 => Command::Prepare(Change::WantPairs, small, n),
+        10 => Command::Prepare(Change::Fill, small, n),
         16.. => Command::Make(
             Call::try_from(code).ok(),
             small,
@@ -121,14 +128,13 @@ fn next_command(file: &mut impl Read) -> Result<Command, Fault> {
     })
 }
 
-// Gives a buffer and its shadow n bytes.
-fn set_len(buffer: &mut Buffer, n: u32) -> Result<(), Fault> {
+// Gives a buffer and its shadow n bytes, each the one given.
+fn set_all(buffer: &mut Buffer, n: u32, byte: u8) -> Result<(), Fault> {
     let n = n as usize;
     if buffer.size() < n {
         return Err(Fault);
     }
-    buffer.set_len(n);
-    Ok(())
+    buffer.set_all(n, byte).map_err(|_| Fault)
 }
 
 // The number of a bit that the buffer has, which the file gives.
@@ -163,20 +169,62 @@ fn want_bytes(file: &mut impl Read, buffer: &mut Buffer, n: u32) -> Result<(), F
     fill(file, part)
 }
 
+// Numbers that follow one another: the first, and how many.
+#[derive(Clone, Copy)]
+struct Numbers {
+    first: u16,
+    count: u16,
+}
+
+impl Numbers {
+    // Number k of them.
+    fn number(self, k: usize) -> Result<u16, Fault> {
+        let k = u16::try_from(k).map_err(|_| Fault)?;
+        self.first.checked_add(k).ok_or(Fault)
+    }
+}
+
+// The file's next numbers that follow one another.
+fn next_numbers(file: &mut impl Read) -> Result<Numbers, Fault> {
+    let first = next_number(file)?;
+    let count = next_number(file)?;
+    Ok(Numbers {
+        first: u16::try_from(first).map_err(|_| Fault)?,
+        count: u16::try_from(count).map_err(|_| Fault)?,
+    })
+}
+
+// Overwrites a shadow from a place on with pairs, as many as the file says: each actor in turn with the same partners.
+fn want_pairs(file: &mut impl Read, buffer: &mut Buffer, at: u32) -> Result<(), Fault> {
+    let actors = next_numbers(file)?;
+    let partners = next_numbers(file)?;
+    let row = partners.count as usize;
+    let len = 4 * (actors.count as usize) * row;
+    let part = replay_buffers::place_mut(buffer.shadow_mut(), at as usize, len);
+    if part.len() != len || row == 0 {
+        return Err(Fault);
+    }
+    for (k, pair) in part.chunks_exact_mut(4).enumerate() {
+        let [a, b] = actors.number(k / row)?.to_le_bytes();
+        let [c, d] = partners.number(k % row)?.to_le_bytes();
+        replay_buffers::copy(&[a, b, c, d], pair);
+    }
+    Ok(())
+}
+
 // Changes a buffer.
 fn prepare(file: &mut impl Read, change: Change, buffer: &mut Buffer, n: u32) -> Result<(), Fault> {
     match change {
         Change::Set => {
-            set_len(buffer, n)?;
+            set_all(buffer, n, 0)?;
             fill(file, buffer.content_mut())?;
             buffer.want_content();
             Ok(())
         }
-        Change::SetZeros => {
-            set_len(buffer, n)?;
-            buffer.content_mut().fill(0);
-            buffer.shadow_mut().fill(0);
-            Ok(())
+        Change::SetZeros => set_all(buffer, n, 0),
+        Change::Fill => {
+            let [byte] = next::<1>(file)?;
+            set_all(buffer, n, byte)
         }
         Change::TurnBits => bits(file, buffer, n, |b, k| {
             replay_buffers::turn(b.content_mut(), k);
@@ -190,6 +238,7 @@ fn prepare(file: &mut impl Read, change: Change, buffer: &mut Buffer, n: u32) ->
         Change::WantBits => bits(file, buffer, n, |b, k| {
             replay_buffers::raise(b.shadow_mut(), k);
         }),
+        Change::WantPairs => want_pairs(file, buffer, n),
     }
 }
 
@@ -222,10 +271,7 @@ pub fn next_case(file: &mut impl Read, memory: &mut Memory) -> Result<Option<Cas
             }
             // Policy and script have no shadow to overwrite.
             Command::Prepare(Change::WantBytes, 2 | 4, 1..) => return Err(Fault),
-            // A buffer that there isn't, up to 15, has no bytes.
-            Command::Prepare(change, 0 | 7..=15, n) => {
-                prepare(file, change, &mut Buffer::new(0), n)?
-            }
+            Command::Prepare(Change::WantPairs, 2 | 4, _) => return Err(Fault),
             Command::Prepare(change, k, n) => {
                 let buffer = memory.buffer(k).ok_or(Fault)?;
                 prepare(file, change, buffer, n)?;
@@ -243,7 +289,7 @@ pub fn next_case(file: &mut impl Read, memory: &mut Memory) -> Result<Option<Cas
 pub fn open<R: Files>(rt: &R, path: &[u8]) -> Result<R::File, Fault> {
     let path = str::from_utf8(path).map_err(|_| Fault)?;
     let mut file = File::open(rt, path).map_err(|_| Fault)?;
-    let begun = next::<5>(&mut file)? == *b"case\x02";
+    let begun = next::<5>(&mut file)? == *b"case\x03";
     begun.then_some(file).ok_or(Fault)
 }
 

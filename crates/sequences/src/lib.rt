@@ -2,13 +2,16 @@
 // looks for first, so a cause that comes behind it goes into one place; it answers the itinerary, the policy and the table
 // that passed. (The runs' sequences answer no itinerary: they write it, and that of an answer would lend it. Policy
 // and table are a tuple, since what goes on takes them apart again.)
-#![tactic(auto, unfolding(model::specs::Calls::showing, model::specs::Calls::running, model::specs::Calls::entry, model::specs::Calls::comparing, model::specs::Calls::checking, model::specs::Calls::making, model::specs::Calls::screening, model::specs::Numbers::check_as, model::specs::Numbers::number_of, model::specs::Refusals::and_then))]
+#![tactic(auto, unfolding(model::specs::Calls::showing, model::specs::Calls::moving, model::specs::Calls::running, model::specs::Calls::entry, model::specs::Calls::comparing, model::specs::Calls::checking, model::specs::Calls::making, model::specs::Calls::screening, model::specs::Numbers::check_as, model::specs::Numbers::number_of, model::specs::Refusals::and_then))]
 
 ghost use Rattle.std.specs.Prelude.{◌≡◌, IfOk};
-ghost use Rattle.model.specs.Calls.{checking, comparing, entry, making, running, screening, showing};
+ghost use Rattle.model.specs.Analysis.{permit_all};
+ghost use Rattle.model.specs.Calls.{checking, comparing, entry, making, moving, running, screening, showing};
+ghost use Rattle.model.specs.MoveList.{tally_of};
 ghost use Rattle.model.specs.Numbers.{check_as};
+ghost use Rattle.model.specs.Records.{records};
 
-use model::{Cause, Refusal};
+use model::{Cause, Refusal, Tally};
 use records::Itinerary;
 use tables::{Policy, Table};
 
@@ -26,6 +29,17 @@ pub fn showing<'a, 'b>(
     let passed = tables::table_gate(table)?;
     gates::need(sheet.len() == it.len(), Cause::Sheet, 0)?;
     Ok((valid, passed))
+}
+
+// Refusals 1 to 6, 15; the list's tally too, by which its length is known.
+pub fn moving<'a>(it: &'a [u8], list: &[u8]) -> Result<(Itinerary<'a>, Tally), Refusal>
+    ensures checks { check_as result ≡ moving it.now list.now }
+    ensures same { IfOk result (λ passed. passed.0 ≡ it.now) }
+    ensures told { IfOk result (λ passed. passed.1 ≡ tally_of permit_all (records it.now)) }
+{
+    let valid = validity::validity(it)?;
+    let tally = move_list::list_gate(&valid, list)?;
+    Ok((valid, tally))
 }
 
 // Refusals 1 to 6, 13.

@@ -1,10 +1,13 @@
 -- Laws of the decided step: that its one pass is the step of the definitions.
-use Rattle.std.specs.Prelude.{◌%◌, suc, ℕ, eqb, length, Bool, ◌&&◌, ◌||◌, ◌≢◌, ◌≡◌}
-use Rattle.std.proofs.Common.{true≢false, ◌∙◌}
+use Rattle.std.specs.Prelude.{◌%◌, suc, ℕ, eqb, length, Bool, ◌&&◌, ◌||◌, ◌≢◌, ◌≡◌, ◌⊎◌}
+use Rattle.std.proofs.Common.{true≢false, ◌∙◌, arith, inl, inr}
 use Rattle.std.proofs.lemmas.Bool.{eqb-false}
 use Rattle.std.proofs.Math.Bool.{false, true}
 use mathlib.Core.List.{List, [], ◌∷◌}
-use Rattle.std.specs.Prelude.{None, Some}
+use Rattle.std.specs.Prelude.{Option, None, Some, Ok, Err}
+use Rattle.model.specs.Numbers.{number_of}
+use Rattle.model.specs.declared.Cause.{Cause}
+use Rattle.model.specs.declared.Cause.TheVariants as cause
 use Rattle.std.proofs.Math.Path.{ap, refl, sym}
 use Rattle.model.specs.Analysis.{permit_all}
 use Rattle.model.specs.Climbing.{ambients}
@@ -17,7 +20,8 @@ use Rattle.model.specs.Refusals.{pass}
 use Rattle.model.specs.Steps.{Outcome, done-by, refused-with, decide, dissolve, dissolved, fit, move, outcome, outcome_by, place, placed, ready, rewritten, stands, step_bytes}
 use Rattle.model.specs.Validity.{validity}
 use Rattle.model.specs.declared.Rec.{Rec}
-use Rattle.steps.specs.Moves.{applied, changed, changes, fit_by, move_by, remade, stands_by, touched_by}
+use Rattle.steps.specs.Moves.{admitted, admitted_by, admitted_if, applied, changed, changes, fit_by, move_by, acting_at, remade, stands_by, touched_by}
+use Rattle.steps.specs.declared.Acting.{Acting}
 use Rattle.steps.specs.declared.Change.{Change}
 use Rattle.steps.specs.declared.Change.TheVariants.{Opens, To}
 use Rattle.steps.specs.declared.Move.{Move}
@@ -36,61 +40,88 @@ module _ (s : List ℕ) (q : ℕ) {active : Bool} (m : length s % 8 ≡ 0) (f : 
   ready-other cap-out n e = rw (at-whole s m q, e, f)
   ready-other cap-open n e = absurd (n refl)
 
--- fit, from the three records
+-- fit, from the records
 and-true : (b : Bool) → (b && true) ≡ b
 and-true true = refl
 and-true false = refl
 
-stands_at : (k : Capability) (its : List Rec) (c b : ℕ) → stands_by k (at its c) (at its (parent_of its c)) (at its b) b ≡ stands k its (parent_of its c) b
-unfolding stands_by stands
+stands_at : (k : Capability) (its : List Rec) (c b : ℕ) → stands_by k (acting_at k its c) (at its b) b ≡ stands k its (parent_of its c) b
+unfolding stands_by stands acting_at
 stands_at cap-in its c b = refl
 stands_at cap-out its c b = refl
 stands_at cap-open its c b = refl
 
-fit_at : (k : Capability) (its : List Rec) (c b : ℕ) → fit_by k (at its c) (at its (parent_of its c)) (at its b) b ≡ fit permit_all k its c b
-unfolding fit_by fit
+fit_at : (k : Capability) (its : List Rec) (c b : ℕ) → fit_by (acting_at k its c) (at its b) b ≡ fit permit_all k its c b
+unfolding fit_by fit acting_at
 fit_at k its c b = ap (λ x. is_ambient (at its b) && eqb (at its b).name (at its c).name && x) (stands_at k its c b) ∙ sym (and-true _)
 
--- what becomes of a step, from the records read
-module _ (s : List ℕ) (m : length s % 8 ≡ 0) (actor partner : ℕ) (c : Rec) (ec : c ≡ decode s actor) where
-  here : at (records s) actor ≡ c
-  here = at-whole s m actor ∙ sym ec
-
+-- what becomes of a step, by what 10 and 11 let through of its actor
+module _ (its : List Rec) (c b : ℕ) where
   abbrev decided : Outcome
-  decided = outcome permit_all (records s) actor partner
+  decided = outcome permit_all its c b
 
-  pub decide-10 : capability c.kind ≡ None → decided ≡ refused-with 10
-  unfolding outcome outcome_by
-  decide-10 h = ap (λ o. outcome_by permit_all o (records s) actor partner) (ap (λ r. capability r.kind) here ∙ h)
+  by_capability : (o : Option Capability) → capability (at its c).kind ≡ o → (decided ≡ outcome_by permit_all o its c b) × (admitted its c ≡ admitted_by o its c)
+  unfolding outcome admitted
+  by_capability o e = (ap (λ x. outcome_by permit_all x its c b) e, ap (λ x. admitted_by x its c) e)
 
-  module _ {k : Capability} (some-kind : capability c.kind ≡ Some k) where
-    by_tests : (x y : Bool) → ready k (records s) c.parent ≡ x → fit permit_all k (records s) actor partner ≡ y →
-        decided ≡ decide k x y
-    unfolding outcome outcome_by
-    by_tests x y p q =
-        ap (λ o. outcome_by permit_all o (records s) actor partner) (ap (λ r. capability r.kind) here ∙ some-kind)
-        ∙ ap (λ t. decide k t (fit permit_all k (records s) actor partner)) (ap (λ r. ready k (records s) r.parent) here ∙ p)
-        ∙ ap (decide k x) q
+  by_ready : (k : Capability) (t : Bool) → capability (at its c).kind ≡ Some k → ready k its (parent_of its c) ≡ t →
+      (decided ≡ decide k t (fit permit_all k its c b)) × (admitted its c ≡ admitted_if t (acting_at k its c))
+  unfolding outcome_by admitted_by
+  by_ready k t e f =
+      let w = by_capability (Some k) e in
+      (w.0 ∙ ap (λ x. decide k x (fit permit_all k its c b)) f, w.1 ∙ ap (λ x. admitted_if x (acting_at k its c)) f)
 
-    pub decide-11 : ready k (records s) c.parent ≡ false → decided ≡ refused-with 11
-    unfolding decide
-    decide-11 h = by_tests false _ h refl
+  abbrev AsAdmitted : Type 0
+  AsAdmitted = ((e : Cause) → admitted its c ≡ Err e → decided ≡ refused-with (number_of e))
+      × ((x : Acting) → admitted its c ≡ Ok x → decided ≡ decide x.capability true (fit_by x (at its b) b))
 
-    module _ (is-ready : ready k (records s) c.parent ≡ true) (a p : Rec) (ea : a ≡ decode s c.parent) (ep : p ≡ decode s partner) where
-      fit_is : fit_by k c a p partner ≡ fit permit_all k (records s) actor partner
-      fit_is =
-          ap (λ x. fit_by k c x p partner) (ea ∙ sym (at-whole s m c.parent))
-          ∙ ap (λ x. fit_by k c (at (records s) c.parent) x partner) (ep ∙ sym (at-whole s m partner))
-          ∙ ap (λ r. fit_by k r (at (records s) r.parent) (at (records s) partner) partner) (sym here)
-          ∙ fit_at k (records s) actor partner
+  pub as-admitted : AsAdmitted
+  unfolding outcome_by admitted_by admitted_if decide number_of acting_at
+  as-admitted = go (capability (at its c).kind) refl
+    where
+      some : (k : Capability) → capability (at its c).kind ≡ Some k → (t : Bool) → ready k its (parent_of its c) ≡ t → AsAdmitted
+      some k e true f = let w = by_ready k true e f in
+          (λ x h. cc, λ x h. let q : x ≡ acting_at k its c = cc in rw q (w.0 ∙ ap (decide k true) (sym (fit_at k its c b))))
+      some k e false f = let w = by_ready k false e f in
+          (λ x h. cc, λ x h. cc)
 
-      pub decide-12 : fit_by k c a p partner ≡ false → decided ≡ refused-with 12
-      unfolding decide
-      decide-12 h = by_tests true false is-ready (sym fit_is ∙ h)
+      go : (o : Option Capability) → capability (at its c).kind ≡ o → AsAdmitted
+      go None e = let w = by_capability None e in (λ x h. cc, λ x h. cc)
+      go (Some k) e = some k e (ready k its (parent_of its c)) refl
 
-      pub decide-done : fit_by k c a p partner ≡ true → decided ≡ done-by k
-      unfolding decide
-      decide-done h = by_tests true true is-ready (sym fit_is ∙ h)
+-- the actor is refused by 10 or by 11 alone
+pub admitted-cause : (its : List Rec) (c : ℕ) (x : Cause) → admitted its c ≡ Err x → (x ≡ cause.Actor) ⊎ (x ≡ cause.Active)
+unfolding admitted admitted_by admitted_if
+admitted-cause its c x = go (capability (at its c).kind)
+  where
+    some : (k : Capability) (t : Bool) → admitted_if t (acting_at k its c) ≡ Err x → (x ≡ cause.Actor) ⊎ (x ≡ cause.Active)
+    some k true e = let u : ◌≡◌ {A = ℕ} 0 1 = cc in absurd (omega arith)
+    some k false e = inr cc
+
+    go : (o : Option Capability) → admitted_by o its c ≡ Err x → (x ≡ cause.Actor) ⊎ (x ≡ cause.Active)
+    go None e = inl cc
+    go (Some k) e = some k (ready k its (parent_of its c)) e
+
+-- an actor that is ready, from its record and its parent's
+abbrev acts : Capability → Rec → Rec → Acting
+acts k r a = record { capability = k; actor = r; above = a }
+
+-- what 10 and 11 let through of an actor, from the records read
+module _ (s : List ℕ) (m : length s % 8 ≡ 0) (actor : ℕ) (r : Rec) (er : r ≡ decode s actor) where
+  here : at (records s) actor ≡ r
+  here = at-whole s m actor ∙ sym er
+
+  pub admit-none : capability r.kind ≡ None → Err cause.Actor ≡ admitted (records s) actor
+  unfolding admitted admitted_by
+  admit-none e = rw (here, e)
+
+  pub admit-some : {k : Capability} → capability r.kind ≡ Some k → (t : Bool) → ready k (records s) r.parent ≡ t → (a : Rec) → a ≡ decode s r.parent →
+      admitted_if t (acts k r a) ≡ admitted (records s) actor
+  unfolding acting_at
+  admit-some {k} e t f a ea =
+      sym ((by_ready (records s) actor 0 k t (ap (λ x. capability x.kind) here ∙ e) (ap (λ x. ready k (records s) x.parent) here ∙ f)).1
+      ∙ ap (λ x. admitted_if t (acts k x (at (records s) x.parent))) here
+      ∙ ap (λ x. admitted_if t (acts k r x)) (at-whole s m r.parent ∙ sym ea))
 
 -- updates one after the other
 module _ (f g : ℕ → Rec → Rec) where

@@ -1,7 +1,12 @@
--- A step that is decided, as the code holds it, and what it makes of each record.
-use Rattle.std.specs.Prelude.{ℕ, eqb, Bool, ◌&&◌, ◌||◌, not, List}
-use Rattle.model.specs.Records.{is_ambient, update}
-use Rattle.model.specs.Steps.{dissolved, placed}
+-- What 10 and 11 let through of an actor, whether a partner fits it, and a step that is decided, as the code holds them; what the
+-- step makes of each record.
+use Rattle.std.specs.Prelude.{ℕ, eqb, Bool, ◌&&◌, ◌||◌, false, not, true, List}
+use Rattle.std.specs.Prelude.{Option, None, Some, Result, Ok, Err}
+use Rattle.model.specs.Records.{at, capability, is_ambient, parent_of, update}
+use Rattle.model.specs.Steps.{dissolved, placed, ready}
+use Rattle.model.specs.declared.Cause.{Cause}
+use Rattle.model.specs.declared.Cause.TheVariants as cause
+use Rattle.steps.specs.declared.Acting.{Acting}
 use Rattle.model.specs.declared.Rec.{Rec}
 use Rattle.steps.specs.declared.Change.{Change}
 use Rattle.steps.specs.declared.Change.TheVariants.{Opens, To}
@@ -9,15 +14,33 @@ use Rattle.steps.specs.declared.Move.{Move}
 use Rattle.model.specs.declared.Capability.{Capability}
 use Rattle.model.specs.declared.Capability.TheVariants.{In as cap-in, Open as cap-open, Out as cap-out}
 
--- where the partner b stands: c's record, that of c's parent and that of b
-unfoldable pub stands_by : Capability → Rec → Rec → Rec → ℕ → Bool
-stands_by cap-in c a p b = not (eqb b c.parent) && eqb p.parent a.parent
-stands_by cap-out c a p b = eqb b a.parent
-stands_by cap-open c a p b = eqb p.parent c.parent
+-- a capability's record and that of its parent
+unfoldable pub acting_at : Capability → List Rec → ℕ → Acting
+acting_at k its c = record { capability = k; actor = at its c; above = at its (parent_of its c) }
 
--- whether the partner b fits: an ambient with c's name that stands where it has to
-unfoldable pub fit_by : Capability → Rec → Rec → Rec → ℕ → Bool
-fit_by k c a p b = is_ambient p && eqb p.name c.name && stands_by k c a p b
+-- an actor that is a capability, ready or not
+unfoldable pub admitted_if : Bool → Acting → Result Acting Cause
+admitted_if true x = Ok x
+admitted_if false x = Err cause.Active
+
+-- an actor, a capability or not
+unfoldable pub admitted_by : Option Capability → List Rec → ℕ → Result Acting Cause
+admitted_by None its c = Err cause.Actor
+admitted_by (Some k) its c = admitted_if (ready k its (parent_of its c)) (acting_at k its c)
+
+-- what 10 and 11 let through of the actor c
+unfoldable pub admitted : List Rec → ℕ → Result Acting Cause
+admitted its c = admitted_by (capability (at its c).kind) its c
+
+-- where the partner b, whose record is p, stands
+unfoldable pub stands_by : Capability → Acting → Rec → ℕ → Bool
+stands_by cap-in x p b = not (eqb b x.actor.parent) && eqb p.parent x.above.parent
+stands_by cap-out x p b = eqb b x.above.parent
+stands_by cap-open x p b = eqb p.parent x.actor.parent
+
+-- whether the partner b fits: an ambient with the actor's name that stands where it has to
+unfoldable pub fit_by : Acting → Rec → ℕ → Bool
+fit_by x p b = is_ambient p && eqb p.name x.actor.name && stands_by x.capability x p b
 
 -- what a step that is done does, from the parents of c and b
 unfoldable pub move_by : Capability → ℕ → ℕ → ℕ → ℕ → Move

@@ -10,7 +10,7 @@ ghost use Rattle.model.specs.Refusals.{pass};
 ghost use Rattle.model.specs.Steps.{dissolved, outcome, placed, ready, step_bytes};
 ghost use Rattle.model.specs.Validity.{validity};
 ghost use Rattle.records.specs.Written.{with_record};
-ghost use Rattle.steps.specs.Moves.{applied, changed, changes, fit_by, move_by, remade, stands_by, touched_by};
+ghost use Rattle.steps.specs.Moves.{admitted, applied, changed, changes, fit_by, move_by, remade, stands_by, touched_by};
 
 use model::{Capability, Cause, Rec};
 
@@ -29,7 +29,17 @@ struct Move {
     pub change: Change,
 }
 
-// Whether the actor's parent is an ambient where it must be, and all above the actor are.
+// An actor that 10 and 11 let through: its capability, its record and its parent's.
+#[derive(Clone, Copy)]
+pub struct Acting {
+    pub capability: Capability,
+    pub actor: Rec,
+    pub above: Rec,
+}
+
+// Whether the actor's parent is an ambient where it must be, and all above the actor are. (A call of its own: what
+// 10 and 11 decide is else too much to be part of what asks it.)
+#[inline(never)]
 fn ready(it: &[u8], k: Capability, parent: u16) -> bool
     requires { length it.now % 8 ≡ 0 }
     ensures { result ≡ ready k (records it.now) parent }
@@ -41,30 +51,11 @@ fn ready(it: &[u8], k: Capability, parent: u16) -> bool
     }
 }
 
-// Whether the partner stands where it must: c is the actor, a its parent, p the partner.
-#[tactic(auto, unfolding(crate::specs::Moves::stands_by))]
-fn stands(k: Capability, c: Rec, a: Rec, p: Rec, partner: u16) -> bool
-    ensures { result ≡ stands_by k c a p partner }
-{
-    match k {
-        Capability::In => (partner != c.parent) & (p.parent == a.parent),
-        Capability::Out => partner == a.parent,
-        Capability::Open => p.parent == c.parent,
-    }
-}
-
-// Whether the partner is an ambient with the actor's name that stands where it must.
-#[tactic(auto, unfolding(crate::specs::Moves::fit_by))]
-fn fits(k: Capability, c: Rec, a: Rec, p: Rec, partner: u16) -> bool
-    ensures { result ≡ fit_by k c a p partner }
-{
-    (p.is_ambient() & (p.name == c.name)) & stands(k, c, a, p, partner)
-}
-
-// Whether a step is done or refused, 10, 11 and 12 in this order.
-fn decide(it: &[u8], actor: u16, partner: u16) -> Result<Capability, Cause>
+// What 10 and 11 let through of an actor. (A part of what asks it, for each actor of a list of moves.)
+#[inline(always)]
+pub fn admit(it: &[u8], actor: u16) -> Result<Acting, Cause>
     requires { length it.now % 8 ≡ 0 }
-    ensures { outcome_as result ≡ outcome permit_all (records it.now) actor partner }
+    ensures { result ≡ admitted (records it.now) actor }
 {
     let c = records::record_at(it, actor);
     let Some(k) = c.capability() else {
@@ -73,12 +64,44 @@ fn decide(it: &[u8], actor: u16, partner: u16) -> Result<Capability, Cause>
     if !ready(it, k, c.parent) {
         return Err(Cause::Active);
     }
-    let a = records::record_at(it, c.parent);
+    Ok(Acting {
+        capability: k,
+        actor: c,
+        above: records::record_at(it, c.parent),
+    })
+}
+
+// Whether the partner stands where it must: p is its record.
+#[tactic(auto, unfolding(crate::specs::Moves::stands_by))]
+fn stands(x: Acting, p: Rec, partner: u16) -> bool
+    ensures { result ≡ stands_by x.capability x p partner }
+{
+    match x.capability {
+        Capability::In => (partner != x.actor.parent) & (p.parent == x.above.parent),
+        Capability::Out => partner == x.above.parent,
+        Capability::Open => p.parent == x.actor.parent,
+    }
+}
+
+// Whether the partner is an ambient with the actor's name that stands where it must.
+#[tactic(auto, unfolding(crate::specs::Moves::fit_by))]
+pub fn fits(x: Acting, p: Rec, partner: u16) -> bool
+    ensures { result ≡ fit_by x p partner }
+{
+    (p.is_ambient() & (p.name == x.actor.name)) & stands(x, p, partner)
+}
+
+// Whether a step is done or refused, 10, 11 and 12 in this order.
+fn decide(it: &[u8], actor: u16, partner: u16) -> Result<Capability, Cause>
+    requires { length it.now % 8 ≡ 0 }
+    ensures { outcome_as result ≡ outcome permit_all (records it.now) actor partner }
+{
+    let x = admit(it, actor)?;
     let p = records::record_at(it, partner);
-    if !fits(k, c, a, p, partner) {
+    if !fits(x, p, partner) {
         return Err(Cause::Partner);
     }
-    Ok(k)
+    Ok(x.capability)
 }
 
 // What a step that is done does: home is the actor's parent, above the partner's.

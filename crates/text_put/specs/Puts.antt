@@ -1,6 +1,8 @@
 -- Bytes put at a place of a lent text.
 use Rattle.std.specs.Prelude.{◌+◌, ◌≤◌, ℕ, drop, length, take, List, [], ◌++◌, ◌∷◌, ◌≡◌}
 use Rattle.model.specs.Listing.{digits_in}
+-- the first bytes of a text written, the rest as it was
+unfoldable pub use Rattle.model.specs.Finite.{over}
 
 -- a field that is a number, and the byte that ends it
 unfoldable pub field_by : ℕ → ℕ → List ℕ
@@ -9,10 +11,6 @@ field_by n end = digits_in 5 n ++ (end ∷ [])
 -- the bytes t with w put at a place
 unfoldable pub splice : ℕ → List ℕ → List ℕ → List ℕ
 splice at w t = take at t ++ (w ++ drop (at + length w) t)
-
--- the first bytes of t written with w, the rest as it was
-unfoldable pub over : List ℕ → List ℕ → List ℕ
-over w t = w ++ drop (length w) t
 
 -- t' is t with w put at place p, and e is the place after it
 pub record Put (t : List ℕ) (p : ℕ) (w t' : List ℕ) (e : ℕ) : Type 0 where

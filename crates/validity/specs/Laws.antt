@@ -1,14 +1,12 @@
 -- The checks in their order, and what they let through to be climbed.
 use Rattle.std.specs.Prelude.{◌%◌, ◌+◌, ◌<◌, ◌≤◌, suc, zero, ℕ, leb, length, Bool, false, is_some, true, List, Option, None, Some, IfNone, ◌≡◌, refl}
-use Rattle.std.proofs.Common.{le-leb, leb-true, true≢false, ◌∙◌, add-one, ap, sym, arith}
+use Rattle.std.proofs.Common.{leb-true, ◌∙◌, add-one, ap, sym, arith}
 use Rattle.std.proofs.Math.Decide.{dec_le, ℕ_discrete}
 use Rattle.model.specs.Climbing.{View, reaches}
-use Rattle.model.specs.Finite.{every}
 use Rattle.model.proofs.Laws.Bytes.{at-whole, length-records, size-le, size-whole, sound-record}
 use Rattle.model.proofs.Laws.Checks.{each-make, each-pass, need-make, then_next, then-refuse}
-use Rattle.model.proofs.Laws.Booleans.{and_left, and_right, is_false}
-use Rattle.model.proofs.Laws.Finite.{every-make, every-use}
-use Rattle.std.proofs.lemmas.Bool.{lt-leb}
+use Rattle.model.proofs.Laws.Booleans.{and_left, and_right}
+use Rattle.model.proofs.Laws.Finite.{every-use}
 use Rattle.model.proofs.Laws.Forest.{Depth, depth_le, root, under}
 use Rattle.model.proofs.Laws.Updates.{at-over, at-root}
 use Rattle.model.proofs.Laws.Views.{depth-reaches, reaches-depth}
@@ -17,6 +15,7 @@ use Rattle.model.specs.Refusals.{each_of, pass, refuse}
 use Rattle.model.specs.Validity.{climb_check, form, label_by, label_in, label_right, parent_right, record_check, size_right}
 use Rattle.model.specs.declared.Rec.{Rec}
 use Rattle.model.proofs.Laws.WellFormed.{amb-nested}
+use Rattle.record_checks.specs.Reading.{in_order}
 use Rattle.records.specs.Climbs.{ambient-is}
 use Rattle.ways.specs.Ways.{Finding, Lost, Parented}
 
@@ -80,14 +79,6 @@ found-reaches s p i l None f g = go (reaches (records s) i) refl
     go false e = sym e
     go true e = let r = reaches-depth (records s) (length (records s)) i e in absurd (g r.0 (omega (arith, r.1, length-records s)) r.2)
 
--- whether no parent has a higher number, by the first that has one and where none has
-module _ (parent : ℕ → ℕ) (n : ℕ) where
-  pub in-order : ((k : ℕ) → k < n → parent (k + 1) ≤ k) → true ≡ every n (λ k. true) (λ k. leb (parent (k + 1)) k)
-  in-order h = sym (every-make _ _ n (λ k l e. le-leb _ _ (h k l)))
-
-  pub out-of-order : (k : ℕ) → k < n → k < parent (k + 1) → false ≡ every n (λ k. true) (λ k. leb (parent (k + 1)) k)
-  out-of-order k l h = sym (is_false _ (λ e. true≢false (sym (every-use _ _ n e k l refl) ∙ lt-leb _ _ h)))
-
 -- where no parent has a higher number every record reaches the environment
 module _ (s : List ℕ) (p : Parented s) where
   -- by as many climbs as its number at most
@@ -100,8 +91,8 @@ module _ (s : List ℕ) (p : Parented s) where
       let r = descend h m (parent_of (records s) (suc i)) (omega arith) (omega arith) in
       (suc r.0, omega (arith, r.1), under (λ u. omega (arith, u)) r.2)
 
-  pub ordered : every (count s) (λ k. true) (λ k. leb (decode s (k + 1)).parent k) ≡ true → each_of (climb_check (records s)) 1 (count s) ≡ pass
-  unfolding climb_check reaches
+  pub ordered : in_order s (count s) ≡ true → each_of (climb_check (records s)) 1 (count s) ≡ pass
+  unfolding climb_check reaches in_order
   ordered e = each-make _ 1 (count s) (λ j l m.
       let w = descend (λ k h. leb-true _ _ (every-use _ _ _ e k h refl)) j j (omega arith) (omega arith) in
       need-make 6 j (depth-reaches (records s) (length (records s)) w.2 (omega (arith, w.1, length-records s))))

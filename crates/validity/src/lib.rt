@@ -1,13 +1,13 @@
 // Refusals 1 to 6: what makes bytes an itinerary.
 #![tactic(auto, unfolding(model::specs::Numbers::check_as, model::specs::Numbers::number_of, model::specs::Refusals::and_then, model::specs::Validity::form, model::specs::Validity::size_right, model::specs::Validity::validity))]
 
-ghost use Rattle.std.specs.Prelude.{◌≡◌, ◌+◌, ◌*◌, ◌≤◌, IfOk, leb, length, true};
-ghost use Rattle.model.specs.Finite.{every};
+ghost use Rattle.std.specs.Prelude.{◌≡◌, IfOk};
 ghost use Rattle.model.specs.Numbers.{check_as};
-ghost use Rattle.model.specs.Records.{count, decode, records};
+ghost use Rattle.model.specs.Records.{count, records};
 ghost use Rattle.model.specs.Refusals.{each_of};
 ghost use Rattle.model.specs.Validity.{climb_check, form, validity};
 ghost use Rattle.validity.specs.Arriving.{arriving};
+ghost use Rattle.record_checks.specs.Reading.{in_order};
 ghost use Rattle.ways.specs.Ways.{Noting, Parented};
 
 use model::{Cause, Refusal};
@@ -39,26 +39,14 @@ fn climb_all(it: &[u8], notes: &mut [Option<()>], n: u16) -> Result<(), Refusal>
     Ok(())
 }
 
-// Whether no record has a parent with a higher number. An itinerary that was written from the top down has none.
-fn in_order(it: &[u8], n: u16) -> bool
-    requires { 8 * n ≤ length it.now }
-    ensures { result ≡ every n (λ k. true) (λ k. leb (decode it.now (k + 1)).parent k) }
-{
-    for i in 0..n {
-        if i < records::parent_of(it, i + 1) {
-            return false;
-        }
-    }
-    true
-}
-
 // Refusal 6 of the n records. Where they are in order all reach the environment, and nothing is climbed.
-fn climbs(it: &[u8], n: u16) -> Result<(), Refusal>
+fn climbs(it: &[u8], n: u16, ordered: bool) -> Result<(), Refusal>
     requires parented { Parented it.now }
     requires counted { n ≡ count it.now }
+    requires order { ordered ≡ in_order it.now n }
     ensures { check_as result ≡ each_of (climb_check (records it.now)) 1 n }
 {
-    if in_order(it, n) {
+    if ordered {
         return Ok(());
     }
     let mut notes = [None; 1025];
@@ -73,8 +61,8 @@ pub fn form(it: &[u8]) -> Result<(), Refusal>
     let len = it.len();
     gates::need((len % 8 == 0) & (len <= records::LONGEST), Cause::Length, 0)?;
     let n = (len / 8) as u16;
-    record_checks::read_all(it, n)?;
-    climbs(it, n)
+    let ordered = record_checks::read_all(it, n)?;
+    climbs(it, n, ordered)
 }
 
 // What every call on an itinerary looks for first; the itinerary that passes.

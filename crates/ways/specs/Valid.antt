@@ -1,6 +1,6 @@
 -- Climbing in a valid itinerary: it always reaches the environment.
-use Rattle.std.specs.Prelude.{◌≤◌, ℕ, get_or, length, List, Option, None, Some, IfNone, IfSome, IsSome, ◌≢◌, ◌≡◌}
-use Rattle.std.proofs.Common.{ap, sym, ◌∙◌, arith, rules}
+use Rattle.std.specs.Prelude.{◌≤◌, ℕ, length, List, Option, None, Some, IfNone, IsSome, ◌≡◌}
+use Rattle.std.proofs.Common.{ap, ◌∙◌, arith, rules}
 use Rattle.model.proofs.Laws.Bytes.{at-whole, length-records, valid-few, valid-wf, valid-whole}
 use Rattle.model.proofs.Laws.Forest.{depth_le}
 use Rattle.model.proofs.Laws.WellFormed.{WellFormed, parent_in, small}
@@ -35,11 +35,6 @@ module _ (s : List ℕ) (v : validity s ≡ pass) where
       h d.0 (omega (arith, depth_le (length (records s)) (parent_in wf) (omega (arith, length-records s)) d.1, length-records s)) d.1
 
   -- so something is found
-  module _ {A : Type 0} (notes : List (Option A)) (i : ℕ) (l : i ≤ count s) where
-    pub found-there : (o : Option A) → IfSome o (λ x. get_or notes i None ≡ Some x) → IfNone o (Lost s (count s) i) → get_or notes i None ≢ None
-    found-there None h n = λ e. absurd (never-lost i l n)
-    found-there (Some x) h n = λ e. let u : ◌≡◌ {A = Option A} (Some x) None = sym h ∙ e in cc
-
-    pub found-some : (o : Option A) → IfNone o (Lost s (count s) i) → IsSome o
-    found-some None n = absurd (never-lost i l n)
-    found-some (Some x) n = search rules
+  pub found-some : {A : Type 0} (i : ℕ) → i ≤ count s → (o : Option A) → IfNone o (Lost s (count s) i) → IsSome o
+  found-some i l None n = absurd (never-lost i l n)
+  found-some i l (Some x) n = search rules

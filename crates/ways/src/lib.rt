@@ -5,6 +5,8 @@
 ghost use Rattle.std.specs.Prelude.{◌≡◌, ◌*◌, ◌≤◌, ◌<◌, ℕ, IfSome, IfNone, Some, None, get_or, length};
 ghost use Rattle.model.specs.Climbing.{View};
 ghost use Rattle.model.specs.Records.{count, decode};
+ghost use Rattle.model.specs.Refusals.{pass};
+ghost use Rattle.model.specs.Validity.{validity};
 ghost use Rattle.ways.specs.Ways.{Finding, Leads, Lost, Noted, Noting, Parented, Passable, Starts};
 
 // What climbs look for: a view, in code.
@@ -117,6 +119,26 @@ fn climb<V: Finds>(
     Some(note(it, view, notes, i, &w, above))
 }
 
+// Notes what is found at record i, by what is found at its parent; and answers it.
+fn note_one<V: Finds>(
+    it: &[u8],
+    view: &V,
+    notes: &mut [Option<V::Found>],
+    i: u16,
+    above: V::Found,
+) -> V::Found
+    requires noting { Noting (V.view view.now) it.now notes.old }
+    requires inside { i ≤ count it.now }
+    requires some { 1 ≤ i }
+    requires found { Finding (V.view view.now) it.now (decode it.now i).parent above }
+    ensures noted { Noted (V.view view.now) it.now notes.old notes.new }
+    ensures here { get_or notes.new i None ≡ Some result }
+{
+    let found = view.make(it, i, above);
+    notes[i as usize] = Some(found);
+    found
+}
+
 // As `climb`. Where the parent has its note no call is made.
 pub fn find<V: Finds>(
     it: &[u8],
@@ -136,7 +158,33 @@ pub fn find<V: Finds>(
     let Some(above) = notes[parent as usize] else {
         return climb(it, view, notes, i, left);
     };
-    let found = view.make(it, i, above);
-    notes[i as usize] = Some(found);
-    Some(found)
+    Some(note_one(it, view, notes, i, above))
+}
+
+// What is found at number j of a valid itinerary: its note, or by a climb.
+fn known<V: Finds>(it: &[u8], view: &V, notes: &mut [Option<V::Found>], j: u16) -> V::Found
+    requires valid { validity it.now ≡ pass }
+    requires noting { Noting (V.view view.now) it.now notes.old }
+    requires inside { j ≤ count it.now }
+    ensures noted { Noted (V.view view.now) it.now notes.old notes.new }
+    ensures here { get_or notes.new j None ≡ Some result }
+{
+    if let Some(found) = notes[j as usize] {
+        return found;
+    }
+    climb(it, view, notes, j, it.len() / 8).unwrap()
+}
+
+// What is found at record i of a valid itinerary, where no climb is lost. (Only a climb's answer is asked whether it is one.)
+pub fn found<V: Finds>(it: &[u8], view: &V, notes: &mut [Option<V::Found>], i: u16) -> V::Found
+    requires valid { validity it.now ≡ pass }
+    requires noting { Noting (V.view view.now) it.now notes.old }
+    requires inside { i ≤ count it.now }
+    requires some { 1 ≤ i }
+    ensures noted { Noted (V.view view.now) it.now notes.old notes.new }
+    ensures here { get_or notes.new i None ≡ Some result }
+{
+    let parent = records::parent_of(it, i);
+    let above = known(it, view, notes, parent);
+    note_one(it, view, notes, i, above)
 }

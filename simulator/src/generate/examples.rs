@@ -18,6 +18,17 @@ pub fn nested(labels: &[u8]) -> Itinerary {
     Itinerary { records: labels.iter().enumerate().map(one).collect() }
 }
 
+/// The lettered examples A, B, D, E, H with out and H with open.
+pub fn lettered() -> [Itinerary; 6] {
+    let boundary = record(Kind::Ambient, 1, 0, 0);
+    let a = [boundary, record(Kind::Ambient, 2, 1, 1)];
+    let b = [&a[..], &[record(Kind::Out, 64, 0, 2)]].concat();
+    let d = [&a[..], &[record(Kind::In, 64, 2, 2), record(Kind::Ambient, 3, 2, 1)]].concat();
+    let e = [boundary, record(Kind::In, 64, 0, 1)];
+    let [out, open] = [Kind::Out, Kind::Open].map(|kind| [boundary, record(kind, 64, 0, 0)]);
+    [a.to_vec(), b, d, e.to_vec(), out.to_vec(), open.to_vec()].map(|records| Itinerary { records })
+}
+
 /// Example C: under the usual policy hinted 1.
 pub fn c() -> Itinerary {
     Itinerary {
@@ -45,6 +56,40 @@ pub fn environment_suspect() -> Itinerary {
             record(Kind::Open, 65, 3, 0),
         ],
     }
+}
+
+/// Runs of records of one kind in the environment, all with one name.
+pub fn runs(runs: &[(Kind, usize)]) -> Itinerary {
+    let one = |kind| match kind {
+        Kind::Gone => Record::GONE,
+        Kind::Ambient => record(kind, 1, 0, 0),
+        _ => record(kind, 64, 0, 0),
+    };
+    let records = runs.iter().flat_map(|&(kind, count)| vec![one(kind); count]).collect();
+    Itinerary { records }
+}
+
+/// Capabilities of that kind in the first ambient, which stands beside the others, all with one name; around them
+/// stands the last record, an ambient too.
+pub fn in_a_mover(kind: Kind, ambients: usize, capabilities: usize) -> Itinerary {
+    let around = (ambients + capabilities + 1) as u16;
+    let mut itinerary = runs(&[(Kind::Ambient, ambients), (kind, capabilities), (Kind::Ambient, 1)]);
+    for (place, record) in itinerary.records[..ambients + capabilities].iter_mut().enumerate() {
+        record.parent = if place < ambients { around } else { 1 };
+    }
+    itinerary
+}
+
+/// Ambients each in the one before, and in the last one capabilities, of which a few outs can act.
+pub fn far_down(depth: usize, capabilities: usize) -> Itinerary {
+    let ambient =
+        |place: usize| record(Kind::Ambient, 1 + (place % 63) as u8, (place % 64) as u8, place as u16);
+    let mut records: Vec<Record> = (0..depth).map(ambient).collect();
+    for place in 0..capabilities {
+        let name = (place / 3 % 64) as u8;
+        records.push(record(Kind::ALL[2 + place % 3], 64 + (place % 64) as u8, name, depth as u16));
+    }
+    Itinerary { records }
 }
 
 /// Ambients with capabilities between them, three deep, and at the end a capability.

@@ -74,13 +74,12 @@ pub fn partners(random: &mut Random, itinerary: &Itinerary, actor: u16) -> Vec<u
 /// A script of that many steps, `good` percent of them drawn to be done.
 pub fn script(random: &mut Random, itinerary: &Itinerary, count: usize, good: usize) -> Vec<u8> {
     let mut state = itinerary.clone();
-    let mut script = Vec::new();
+    let mut drawn_steps = Vec::new();
     for _ in 0..count {
         let drawn = if random.chance(good) { done_step(random, &state) } else { None };
         let (actor, partner) = drawn.unwrap_or_else(|| any_step(random, &state));
         let _ = steps::step(Law::Document, &mut state, actor, partner);
-        script.extend(actor.to_le_bytes());
-        script.extend(partner.to_le_bytes());
+        drawn_steps.push((actor, partner));
     }
-    script
+    steps::script(&drawn_steps)
 }

@@ -51,6 +51,16 @@ impl Mix {
         }
     }
 
+    /// Most stand side by side under few names, so that a capability can act on many.
+    pub fn crowded(random: &mut Random) -> Mix {
+        Mix {
+            records: random.between(8, 40),
+            top: random.pick(&[40, 70, 95]),
+            names: random.between(1, 2),
+            ..Mix::lively(random)
+        }
+    }
+
     pub fn medium(random: &mut Random) -> Mix {
         Mix {
             records: random.between(20, 80),

@@ -1,8 +1,11 @@
 //! How often each call got each answer, and which answers must turn up.
 
+use super::moves_cases::LONGEST;
 use super::stream::{Buffer, Buffers, Call};
 use crate::answer::Answer;
-use crate::record::{Itinerary, Kind};
+use crate::law::Law;
+use crate::record::{Itinerary, Kind, MOST_RECORDS};
+use crate::steps;
 use crate::table::{reached, verdict, Policy, Table, Verdict, BOUNDARY, HIGH};
 use std::collections::BTreeMap;
 
@@ -16,6 +19,9 @@ impl Counts {
     /// Notes an answer, and what can be told apart among answers of number 0.
     pub fn note(&mut self, call: Call, x: u16, answer: &Answer, after: &Buffers) {
         self.add(call, format!("{:2}", answer.number));
+        if call == Call::Moves {
+            self.add_room(answer.number, after);
+        }
         if answer.number != 0 {
             return;
         }
@@ -24,6 +30,7 @@ impl Counts {
             Call::Screen => self.add_verdict(call, answer.values[0] / 256, answer.values[0] % 256),
             Call::Climb => self.add_climb(x, after),
             Call::Exposed => self.add_exposed(answer.values[0] == 1, after),
+            Call::Moves => self.add_moves(answer, after),
             Call::Row if answer.values[1] == 0 => self.add(call, " 0 empty part".to_string()),
             _ => {}
         }
@@ -38,7 +45,7 @@ impl Counts {
         *self.by_answer.entry((call, answer)).or_default() += 1;
     }
 
-    fn add_verdict(&mut self, call: Call, code: u16, label: u16) {
+    fn add_verdict(&mut self, call: Call, code: u32, label: u32) {
         let word = match (code, label) {
             (1, _) => "exposed",
             (2, 0) => "hinted 0",
@@ -107,6 +114,56 @@ impl Counts {
         }
     }
 
+    /// How much room the list had.
+    fn add_room(&mut self, number: u8, after: &Buffers) {
+        let room = after.get(Buffer::List).len();
+        let itinerary = Itinerary::read(after.get(Buffer::Itinerary));
+        let needed = itinerary.map_or(0, |it| 4 * steps::moves(Law::Document, &it).0.len());
+        let good = matches!(number, 0 | 15);
+        let met = [
+            ("no bytes", room == 0),
+            ("with bytes", room > 0),
+            ("one byte less", good && room + 1 == needed),
+            ("just as long", good && room == needed && needed > 0),
+            ("longer by no multiple of 4", good && room > needed && room % 4 != 0),
+            ("longer by a multiple of 4", good && room > needed && room % 4 == 0),
+            ("the longest list", needed == LONGEST),
+        ];
+        for (word, _) in met.into_iter().filter(|&(_, so)| so) {
+            self.add(Call::Moves, format!("{number:2} {word}"));
+        }
+    }
+
+    /// What stands on the list, and what was answered.
+    fn add_moves(&mut self, answer: &Answer, after: &Buffers) {
+        let Ok(itinerary) = Itinerary::read(after.get(Buffer::Itinerary)) else { return };
+        let pairs = steps::script_steps(&after.get(Buffer::List)[..4 * answer.values[0] as usize]);
+        let mut actors: Vec<u16> = pairs.iter().map(|&(actor, _)| actor).collect();
+        actors.dedup();
+        let full = itinerary.count() == MOST_RECORDS;
+        let all = |place: usize| full && answer.values[place] as usize == MOST_RECORDS * MOST_RECORDS;
+        let acts = |kind: Kind| {
+            actors.iter().any(|&actor| itinerary.get(actor).is_some_and(|record| record.kind == kind))
+        };
+        let met = [
+            ("no records", itinerary.count() == 0),
+            ("no pairs", actors.is_empty()),
+            ("all answers", answer.values[..4].iter().all(|&times| times > 0)),
+            ("all 10", all(1)),
+            ("all 11", all(2)),
+            ("all 12", all(3)),
+            ("in", acts(Kind::In)),
+            ("out", acts(Kind::Out)),
+            ("open", acts(Kind::Open)),
+            ("an actor with several", actors.len() < pairs.len()),
+            ("few actors of 1,024", full && (1..=4).contains(&actors.len())),
+            ("a gone record", itinerary.standing() < itinerary.count()),
+        ];
+        for (word, _) in met.into_iter().filter(|&(_, so)| so) {
+            self.add(Call::Moves, format!(" 0 {word}"));
+        }
+    }
+
     /// How many calls were made.
     pub fn calls(&self) -> usize {
         let whole = self.by_answer.iter().filter(|((_, answer), _)| answer.len() == 2);
@@ -146,6 +203,29 @@ const CLIMBS: [&str; 13] = [
     "parent of a higher number",
 ];
 
+/// What the cases of the list have to meet: rooms, then what stands on it.
+const ROOMS: [&str; 5] = [
+    "just as long",
+    "longer by no multiple of 4",
+    "longer by a multiple of 4",
+    "no bytes",
+    "the longest list",
+];
+const MOVES: [&str; 12] = [
+    "no records",
+    "no pairs",
+    "all answers",
+    "all 10",
+    "all 11",
+    "all 12",
+    "in",
+    "out",
+    "open",
+    "an actor with several",
+    "few actors of 1,024",
+    "a gone record",
+];
+
 /// Every answer that the call can get.
 fn reachable(call: Call) -> Vec<String> {
     let numbers: &[u8] = match call {
@@ -158,6 +238,7 @@ fn reachable(call: Call) -> Vec<String> {
         Call::Maker => &[7, 8],
         Call::Row => return vec![" 0".to_string(), " 0 empty part".to_string()],
         Call::Screen => &[7, 13],
+        Call::Moves => &[15],
     };
     let mut all: Vec<String> =
         (0..=6).chain(numbers.iter().copied()).map(|number: u8| format!("{number:2}")).collect();
@@ -170,6 +251,12 @@ fn reachable(call: Call) -> Vec<String> {
     if call == Call::Exposed {
         let words = ["yes, by row 0", "yes, rows away", "no, hinted", "no, sealed", "no, behind a boundary"];
         all.extend(words.map(|word| format!(" 0 {word}")));
+    }
+    if call == Call::Moves {
+        all.extend(ROOMS.into_iter().chain(MOVES).map(|word| format!(" 0 {word}")));
+        all.extend(["no bytes", "one byte less", "the longest list"].map(|word| format!("15 {word}")));
+        let both = |number: u8| ["no bytes", "with bytes"].map(|word| format!("{number:2} {word}"));
+        all.extend((1..=6).flat_map(both));
     }
     if matches!(call, Call::Run | Call::Screen) {
         all.extend([0, 10, 11, 12].map(|step| format!(" 0 with step answer {step}")));

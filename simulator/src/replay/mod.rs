@@ -4,6 +4,7 @@ pub mod climb_cases;
 pub mod counts;
 pub mod exposed_cases;
 pub mod itinerary_cases;
+pub mod moves_cases;
 pub mod player;
 pub mod screen_cases;
 pub mod stream;
@@ -18,10 +19,11 @@ use writer::Writer;
 /// A set of cases: its name on the command line, what writes it, and its calls.
 pub type Section = (&'static str, fn(&mut Writer, &mut Random, Size), &'static [Call]);
 
-pub const SECTIONS: [Section; 3] = [
+pub const SECTIONS: [Section; 4] = [
     ("itinerary", itinerary_cases::write, &itinerary_cases::CALLS),
     ("table", table_cases::write, &table_cases::CALLS),
     ("screen", screen_cases::write, &screen_cases::CALLS),
+    ("moves", moves_cases::write, &moves_cases::CALLS),
 ];
 
 /// How much is written: everything, or a sample of a few dozen kilobytes.

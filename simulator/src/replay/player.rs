@@ -4,6 +4,7 @@
 use super::stream::*;
 use crate::answer::{Answer, VALUES};
 use crate::law::Law;
+use crate::steps;
 
 /// Reads numbers from a file; reading past the end is an error in words.
 struct Reader<'a> {
@@ -37,6 +38,17 @@ impl<'a> Reader<'a> {
     }
 }
 
+/// Some actors, each in turn with the same partners.
+fn block(reader: &mut Reader) -> Result<Vec<(u16, u16)>, String> {
+    let [actor, actors, partner, partners] =
+        [reader.number()?, reader.number()?, reader.number()?, reader.number()?].map(u64::from);
+    if actor + actors > 65_536 || partner + partners > 65_536 {
+        return Err("a number over 65,535 in a pair".to_string());
+    }
+    let of = |actor| (partner..partner + partners).map(move |partner| (actor as u16, partner as u16));
+    Ok((actor..actor + actors).flat_map(of).collect())
+}
+
 struct Player {
     now: Buffers,
     shadow: Buffers,
@@ -64,6 +76,7 @@ impl Player {
         match code {
             SET => self.set(buffer, reader.take(count)?),
             SET_ZEROS => self.set(buffer, &vec![0; count]),
+            FILL => self.set(buffer, &vec![reader.byte()?; count]),
             TURN_BITS => {
                 for bit in reader.numbers(count)? {
                     *self.byte_of(false, buffer, bit)? ^= 1 << (bit % 8);
@@ -81,6 +94,10 @@ impl Player {
                     *self.byte_of(true, buffer, bit)? |= 1 << (bit % 8);
                 }
             }
+            EXPECT_PAIRS => {
+                let bytes = steps::script(&block(reader)?);
+                self.shadow(buffer, count, bytes.len())?.copy_from_slice(&bytes);
+            }
             _ => return Err(format!("no command {code}")),
         }
         Ok(())
@@ -94,7 +111,7 @@ impl Player {
             return Err(format!("{count} values"));
         }
         for value in &mut expected.values[..count] {
-            *value = reader.number()?.try_into().map_err(|_| "a value that no call has".to_string())?;
+            *value = reader.number()?;
         }
         let answer = perform(law, call, x, y, &mut self.now);
         if answer != expected {

@@ -5,7 +5,7 @@ use crate::calls;
 use crate::law::Law;
 
 /// What a file begins with: a word, and the version of the format.
-pub const HEADER: &[u8; 5] = b"case\x02";
+pub const HEADER: &[u8; 5] = b"case\x03";
 
 pub const END: u8 = 0;
 pub const SET: u8 = 3;
@@ -14,6 +14,8 @@ pub const TURN_BITS: u8 = 5;
 pub const EXPECT_BYTES: u8 = 6;
 pub const EXPECT_ZEROS: u8 = 7;
 pub const EXPECT_BITS: u8 = 8;
+pub const EXPECT_PAIRS: u8 = 9;
+pub const FILL: u8 = 10;
 
 /// The buffers, numbered as in the file.
 #[derive(Clone, Copy, Debug, PartialEq, Eq)]
@@ -24,11 +26,19 @@ pub enum Buffer {
     Script,
     Answers,
     Sheet,
+    List,
 }
 
 impl Buffer {
-    pub const ALL: [Buffer; 6] =
-        [Buffer::Itinerary, Buffer::Policy, Buffer::Table, Buffer::Script, Buffer::Answers, Buffer::Sheet];
+    pub const ALL: [Buffer; 7] = [
+        Buffer::Itinerary,
+        Buffer::Policy,
+        Buffer::Table,
+        Buffer::Script,
+        Buffer::Answers,
+        Buffer::Sheet,
+        Buffer::List,
+    ];
 
     pub fn of_number(number: u8) -> Option<Buffer> {
         Buffer::ALL.into_iter().find(|&buffer| buffer as u8 == number)
@@ -48,10 +58,11 @@ pub enum Call {
     Row,
     Screen,
     Exposed,
+    Moves,
 }
 
 impl Call {
-    pub const ALL: [Call; 11] = [
+    pub const ALL: [Call; 12] = [
         Call::Validate,
         Call::Climb,
         Call::Sheet,
@@ -63,6 +74,7 @@ impl Call {
         Call::Row,
         Call::Screen,
         Call::Exposed,
+        Call::Moves,
     ];
 
     pub fn of_code(code: u8) -> Option<Call> {
@@ -70,10 +82,10 @@ impl Call {
     }
 }
 
-/// The six buffers; buffer number k is `contents[k - 1]`.
+/// The seven buffers; buffer number k is `contents[k - 1]`.
 #[derive(Clone, Debug, Default, PartialEq, Eq)]
 pub struct Buffers {
-    pub contents: [Vec<u8>; 6],
+    pub contents: [Vec<u8>; 7],
 }
 
 impl Buffers {
@@ -88,7 +100,7 @@ impl Buffers {
 
 /// Makes the call on the buffers.
 pub fn perform(law: Law, call: Call, x: u16, y: u16, buffers: &mut Buffers) -> Answer {
-    let [itinerary, policy, table, script, answers, sheet] = &mut buffers.contents;
+    let [itinerary, policy, table, script, answers, sheet, list] = &mut buffers.contents;
     let outcome = match call {
         Call::Validate => calls::validate(itinerary),
         Call::Climb => calls::climb(itinerary, policy, x),
@@ -101,6 +113,7 @@ pub fn perform(law: Law, call: Call, x: u16, y: u16, buffers: &mut Buffers) -> A
         Call::Row => calls::row(table, x),
         Call::Screen => calls::screen(law, itinerary, policy, script, answers),
         Call::Exposed => calls::exposed(law, itinerary, policy, table),
+        Call::Moves => calls::moves(law, itinerary, list),
     };
     outcome.into()
 }

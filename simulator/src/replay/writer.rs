@@ -9,6 +9,9 @@ use crate::table::{Table, TABLE_LENGTH};
 /// Equal bytes between two changed ones that are cheaper to repeat than to skip.
 const CHEAP_GAP: usize = 10;
 
+/// What the command for a block of pairs takes, and that for what stands behind it.
+const BLOCK_COST: usize = 22 + 10;
+
 pub struct Writer {
     out: Vec<u8>,
     now: Buffers,
@@ -55,6 +58,46 @@ fn expect_parts(buffer: Buffer, before: &[u8], after: &[u8]) -> Vec<u8> {
     out
 }
 
+/// The pair that stands as number `place` in a list, counted from 0.
+fn pair(list: &[u8], place: usize) -> Option<(usize, usize)> {
+    let four = list.get(4 * place..4 * place + 4)?;
+    let number = |at: usize| usize::from(u16::from_le_bytes([four[at], four[at + 1]]));
+    Some((number(0), number(2)))
+}
+
+/// How many actors follow one another from that place on, each with the same partners that follow one another,
+/// and how many partners.
+fn block(list: &[u8], place: usize) -> (usize, usize) {
+    let Some((actor, partner)) = pair(list, place) else { return (0, 0) };
+    let follows = |actors: usize, partners: usize, at: usize| {
+        pair(list, place + at) == Some((actor + actors, partner + partners))
+    };
+    let partners = (1..).take_while(|&more| follows(0, more, more)).count() + 1;
+    let whole = |&more: &usize| (0..partners).all(|k| follows(more, k, more * partners + k));
+    ((1..).take_while(whole).count() + 1, partners)
+}
+
+/// The commands for a list's blocks, then those for what is left.
+fn expect_pairs(before: &[u8], after: &[u8]) -> Vec<u8> {
+    let (mut out, mut now) = (Vec::new(), before.to_vec());
+    let mut place = 0;
+    while let Some((actor, partner)) = pair(after, place) {
+        let (actors, partners) = block(after, place);
+        let part = 4 * place..4 * (place + actors * partners);
+        if part.len() <= BLOCK_COST {
+            place += 1;
+            continue;
+        }
+        if now[part.clone()] != after[part.clone()] {
+            put_head(&mut out, EXPECT_PAIRS, Buffer::List as u8, part.start);
+            [actor, actors, partner, partners].into_iter().for_each(|number| put_number(&mut out, number));
+            now[part.clone()].copy_from_slice(&after[part]);
+        }
+        place += actors * partners;
+    }
+    [out, expect_parts(Buffer::List, &now, after)].concat()
+}
+
 /// The shortest commands for a content that the call changes.
 fn expect(buffer: Buffer, before: &[u8], after: &[u8]) -> Vec<u8> {
     if before == after {
@@ -74,6 +117,9 @@ fn expect(buffer: Buffer, before: &[u8], after: &[u8]) -> Vec<u8> {
             put_bits(&mut bits, EXPECT_BITS, &differing_bits(&old, &new));
             ways.push(bits);
         }
+    }
+    if buffer == Buffer::List {
+        ways.push(expect_pairs(before, after));
     }
     ways.into_iter().min_by_key(Vec::len).unwrap_or_default()
 }
@@ -101,6 +147,10 @@ impl Writer {
             put_head(&mut command, SET_ZEROS, buffer as u8, content.len());
         } else if buffer == Buffer::Table {
             command = self.shortest_table(content, command);
+        } else if buffer == Buffer::List && content.iter().all(|&byte| byte == content[0]) {
+            command.clear();
+            put_head(&mut command, FILL, buffer as u8, content.len());
+            command.push(content[0]);
         }
         self.out.extend(command);
         *self.now.get_mut(buffer) = content.to_vec();
@@ -141,7 +191,7 @@ impl Writer {
         self.out.push(answer.number);
         self.out.extend(answer.record.to_le_bytes());
         for &value in &answer.values[..used] {
-            put_number(&mut self.out, value.into());
+            put_number(&mut self.out, value as usize);
         }
         self.counts.note(call, x, &answer, &after);
         self.now = after;

@@ -92,15 +92,15 @@ static void helpers(void)
 
 static void causes(void)
 {
-    const char *unknown = hub_cause(15);
+    const char *unknown = hub_cause(16);
     uint32_t number, other;
     int alike = 0;
     expect("done has a word", strcmp(hub_cause(HUB_DONE), "done") == 0);
     expect("6 in words", strcmp(hub_cause(HUB_REFUSED_CLIMB), "climbing doesn't reach 0") == 0);
     expect("a number that is none", strcmp(unknown, "unknown cause") == 0);
     expect("a number far away", strcmp(hub_cause(0xffffffffu), unknown) == 0);
-    for (number = HUB_DONE; number <= HUB_REFUSED_SHEET; number++) {
-        for (other = number + 1; other <= HUB_REFUSED_SHEET + 1; other++) {
+    for (number = HUB_DONE; number <= HUB_REFUSED_LIST; number++) {
+        for (other = number + 1; other <= HUB_REFUSED_LIST + 1; other++) {
             alike += strcmp(hub_cause(number), hub_cause(other)) == 0;
         }
     }
@@ -157,6 +157,7 @@ static void refusals(void)
     HubVerdictResult judged;
     HubExposedResult asked;
     HubRunResult ran;
+    HubMovesResult listed;
     HubScreenResult screened;
     expect("seven bytes", REFUSED(climbed, HUB_REFUSED_LENGTH, 0));
     climbed = hub_climb(example, two, usual, 63, 2);
@@ -178,6 +179,8 @@ static void refusals(void)
     memcpy(work, example, sizeof work);
     ran = hub_run(work, sizeof work, script, sizeof script, bytes, 2);
     expect("too many answers", REFUSED(ran, HUB_REFUSED_SCRIPT, 0));
+    listed = hub_moves(work, sizeof work, bytes, HUB_STEP_LENGTH - 1);
+    expect("a short list", REFUSED(listed, HUB_REFUSED_LIST, 0));
     screened = hub_screen(work, sizeof work, usual, 63, script, sizeof script, bytes, 1);
     expect("a refused screen", REFUSED(screened, HUB_REFUSED_POLICY, 0));
     expect("nothing is written", memcmp(work, example, sizeof work) == 0 && bytes[0] == 7 && bytes[1] == 7);
@@ -188,6 +191,10 @@ static void example_b(void)
     uint8_t work[sizeof example], after[sizeof example], answers[2] = {7, 7};
     uint8_t script[2 * HUB_STEP_LENGTH];
     const uint32_t screen[] = {0, 0, HUB_EXPOSED, 2, 7, 0, 1, 0, 2};
+    const uint32_t tally[] = {0, 0, 1, 6, 0, 2};
+    uint8_t list[2 * HUB_STEP_LENGTH];
+    HubStep move;
+    HubMovesResult listed;
     HubStepResult stepped;
     HubRunResult ran;
     HubMakeResult made;
@@ -201,6 +208,14 @@ static void example_b(void)
     made = hub_make(example, sizeof example, usual, sizeof usual, table, sizeof table);
     asked = hub_exposed(example, sizeof example, usual, sizeof usual, table, sizeof table);
     expect("B is exposed", DONE(made) && DONE(asked) && asked.exposed == 1);
+    memset(list, 7, sizeof list);
+    listed = hub_moves(example, sizeof example, list, sizeof list);
+    expect("B: the list's fields", fields(&listed, sizeof listed, tally, sizeof tally / sizeof tally[0]));
+    expect("B: one move", DONE(listed) && listed.done == 1 && listed.unfit == 2 && listed.no_capability == 6);
+    move = hub_read_step(list);
+    expect("B: move (3,1)", move.actor == 3 && move.partner == 1 && list[HUB_STEP_LENGTH] == 7);
+    listed = hub_moves(example, two, list, 0);
+    expect("A: no move", DONE(listed) && listed.done == 0 && listed.no_capability == 4);
     memcpy(work, example, sizeof work);
     stepped = hub_step(work, sizeof work, 3, 1);
     expect("B: step (3,1)", DONE(stepped) && memcmp(work, after, sizeof work) == 0);

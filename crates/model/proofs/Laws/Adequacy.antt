@@ -244,11 +244,11 @@ outcome-pass (done-by k) e = (k, refl)
 
 -- the call on a valid itinerary
 module _ (s : List ℕ) (v : validity s ≡ pass) (c b : ℕ) where
-  call-done : step_answer s c b ≡ done tt → (k : Capability) × (outcome permit_all (records s) c b ≡ done-by k)
+  pub call-done : step_answer s c b ≡ done tt → (k : Capability) × (outcome permit_all (records s) c b ≡ done-by k)
   unfolding step_answer stepping
   call-done e = outcome-pass _ (then-pass _ _ (answer-done (stepping s c b) tt tt e)).1
 
-  done-call : (k : Capability) → outcome permit_all (records s) c b ≡ done-by k → step_answer s c b ≡ done tt
+  pub done-call : (k : Capability) → outcome permit_all (records s) c b ≡ done-by k → step_answer s c b ≡ done tt
   unfolding step_answer stepping outcome_check and_then answer
   done-call k e = rw (v, e)
 

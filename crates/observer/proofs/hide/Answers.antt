@@ -1,32 +1,26 @@
 -- The goals of `observer::hide`; the argument stands in Invariants.
-use Rattle.std.proofs.Common.{◌∙◌, ◌≡◌, ◌+◌, Bool, [], refl, sym, arith}
+use Rattle.std.proofs.Common.{◌∙◌, ◌≡◌, ◌+◌, refl, sym, arith}
 use Rattle.records.specs.Written.{pass-end, pass-length, pass-next, pass-read, pass-whole, written_none}
 use Rattle.model.specs.Climbing.{hidden}
-use Rattle.model.specs.Observer.{sheet, sheet_of}
+use Rattle.model.specs.Observer.{sheet}
 use Rattle.model.specs.Records.{count, records}
-use Rattle.model.specs.Tables.{suspects}
+use Rattle.observer.specs.Labels.{labels, sheet_by}
 use Rattle.observer.specs.Laws.{sheet-gone, sheet-stands}
 use Rattle.model.proofs.Laws.Bytes.{valid-whole}
-use Rattle.ways.specs.Laws.{found-is}
-use Rattle.ways.specs.Valid.{found-some}
 use Rattle.observer.proofs.hide.Goals as goal
-use Rattle.observer.proofs.hide.Goals.{After-unwrap, then-unwrap, else-unwrap}
+use Rattle.observer.proofs.hide.Goals.{After-found, then-found, else-found}
 
 -- what is found is whether record i + 1 is hidden
-told : (c : After-unwrap) → c.unwrap.result ≡ hidden (records c.args.it.now) (suspects c.args.table.now) (c.loop-i.i + 1)
+told : (c : After-found) → c.found.result ≡ hidden (records c.args.it.now) (labels c.args.suspects) (c.loop-i.i + 1)
 unfolding count
-told c = let f = c.find.ensures in (found-is f.noted _ (omega arith) _ f.here c.unwrap.ensures).is
+told c = let f = c.found.ensures in (f.noted.noting.told _ _ (omega arith) f.here).is
 
 pub loop-i-init : goal.loop-i-init
 loop-i-init c = (c.requires.noting, c.requires.copied ∙ written_none _ _)
 
-pub find-requires-clause-inside : goal.find-requires-clause-inside
+pub found-requires-clause-inside : goal.found-requires-clause-inside
 unfolding count
-find-requires-clause-inside c = omega arith
-
-pub unwrap-requires : goal.unwrap-requires
-unfolding count
-unwrap-requires c = found-some _ c.requires.valid {A = Bool} [] (c.loop-i.i + 1) (omega arith) _ c.find.ensures.lost
+found-requires-clause-inside c = omega arith
 
 pub put_record-requires : goal.put_record-requires
 unfolding count
@@ -36,15 +30,15 @@ put_record-requires c =
 pub loop-i-preserved : goal.loop-i-preserved
 unfolding count
 loop-i-preserved c =
-    let l = c.loop-i in let h = told (goal.at.loop-i-preserved c).After-unwrap in (
-      c.find.ensures.noted.noting,
-      elim c.if-unwrap.branch [
-        | then-unwrap v ↦ v.sheet-is ∙ v.put_record.ensures ∙ pass-next _ _ _ _ _ l.invariant.1 (omega arith) _ _ refl (c.gone-gone.ensures ∙ sheet-gone _ _ _ _ h v.if-unwrap.true)
-        | else-unwrap v ↦ v.sheet-is ∙ sym (pass-whole _ _ _ _ l.invariant.1 (λ j. omega (arith, c.type_inv.it j)) c.requires.valid (omega arith))
-            ∙ pass-next _ _ _ _ _ l.invariant.1 (omega arith) _ _ refl (pass-read _ _ _ _ _ l.invariant.1 (omega arith) ∙ sheet-stands _ _ _ _ h v.if-unwrap.false)
+    let l = c.loop-i in let h = told (goal.at.loop-i-preserved c).After-found in (
+      c.found.ensures.noted.noting,
+      elim c.if-found.branch [
+        | then-found v ↦ v.sheet-is ∙ v.put_record.ensures ∙ pass-next _ _ _ _ _ l.invariant.1 (omega arith) _ _ refl (c.gone-gone.ensures ∙ sheet-gone _ _ _ _ h v.if-found.true)
+        | else-found v ↦ v.sheet-is ∙ sym (pass-whole _ _ _ _ l.invariant.1 (λ j. omega (arith, c.type_inv.it j)) c.requires.valid (omega arith))
+            ∙ pass-next _ _ _ _ _ l.invariant.1 (omega arith) _ _ refl (pass-read _ _ _ _ _ l.invariant.1 (omega arith) ∙ sheet-stands _ _ _ _ h v.if-found.false)
       ],
     )
 
 pub returns : goal.returns
-unfolding sheet_of sheet count
+unfolding sheet_by sheet count
 returns c = pass-end _ _ _ _ _ c.loop-i.invariant.1 (omega arith) (omega (arith, valid-whole _ c.requires.valid))

@@ -5,9 +5,9 @@ use Rattle.records.specs.Written.{written}
 use Rattle.model.specs.Climbing.{hiding}
 use Rattle.model.specs.Observer.{on_sheet}
 use Rattle.model.specs.Records.{records, update}
-use Rattle.model.specs.Tables.{suspects}
+use Rattle.observer.specs.Labels.{labels}
 use Rattle.ways.specs.Ways.{Noting}
 use Rattle.observer.proofs.hide.Given as goal
 
 abbrev pub invariant-loop-i : goal.invariant-loop-i
-invariant-loop-i l = Noting (hiding (suspects l.table)) l.it l.notes × (l.sheet ≡ written (update (on_sheet (records l.it) (suspects l.table)) (records l.it)) l.i l.it)
+invariant-loop-i l = Noting (hiding (labels l.suspects)) l.it l.notes × (l.sheet ≡ written (update (on_sheet (records l.it) (labels l.suspects)) (records l.it)) l.i l.it)

@@ -2,20 +2,24 @@
 use Rattle.std.proofs.Common.{◌∙◌, ◌≡◌, Err, sym, rules}
 use Rattle.model.proofs.Laws.Checks.{rest_end, rest-next, rest-refuse, rest-start, answered-done, answered-refused}
 use Rattle.model.specs.Numbers.{check_as}
+use Rattle.record_checks.specs.Laws.{answered-is, order-next, order-start}
 use Rattle.record_checks.proofs.read_all.Goals as goal
 
 pub loop-i-init : goal.loop-i-init
-loop-i-init c = rest-start _ _
+loop-i-init c = (rest-start _ _, order-start _)
 
 pub loop-i-preserved : goal.loop-i-preserved
-loop-i-preserved c = c.loop-i.invariant ∙ rest-next _ _ _ c.loop-i-test.true (answered-done _ _ _ c.read_record.ensures c.in_ok-read_record.was)
+loop-i-preserved c = (
+  c.loop-i.invariant.0 ∙ rest-next _ _ _ c.loop-i-test.true (answered-done _ _ _ c.read_record.ensures c.in_ok-r.was),
+  order-next _ _ _ _ c.loop-i.invariant.1 (answered-is _ _ _ c.read_record.ensures c.in_ok-r.was),
+)
 
-pub returns-in_err-read_record : goal.returns-in_err-read_record
+pub returns-in_err-r-clause-checks : goal.returns-in_err-r-clause-checks
 unfolding check_as
-returns-in_err-read_record c =
-    let e : c.from_residual.result ≡ Err c.in_err-read_record.field-0.0 = search rules in
-    rw e (sym (c.loop-i.invariant ∙ rest-refuse _ _ _ _ _ c.loop-i-test.true (answered-refused _ _ _ c.read_record.ensures c.in_err-read_record.was)))
+returns-in_err-r-clause-checks c =
+    let e : c.from_residual.result ≡ Err c.in_err-r.field-0.0 = search rules in
+    rw e (sym (c.loop-i.invariant.0 ∙ rest-refuse _ _ _ _ _ c.loop-i-test.true (answered-refused _ _ _ c.read_record.ensures c.in_err-r.was)))
 
-pub returns : goal.returns
+pub returns-clause-checks : goal.returns-clause-checks
 unfolding check_as
-returns c = sym (c.loop-i.invariant ∙ rest_end _ _ _ c.loop-i-test.false)
+returns-clause-checks c = sym (c.loop-i.invariant.0 ∙ rest_end _ _ _ c.loop-i-test.false)

@@ -1,6 +1,7 @@
 -- `record_checks::spare_right` meets its contract: the spare bytes of a whole record are read directly.
+use Rattle.std.proofs.Common.{arith}
 use Rattle.record_checks.specs.Laws.{spare-direct}
 use Rattle.record_checks.proofs.spare_right.Goals as goal
 
 pub returns : goal.returns
-returns c = spare-direct _ _ c.if-i-eq0.false
+returns c = spare-direct _ _ (λ e. omega (arith, c.requires.some, e))

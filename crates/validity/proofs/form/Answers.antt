@@ -19,18 +19,18 @@ overflow_cast-n c = omega (arith, size-le c.args.it.now (sized (goal.at.overflow
 
 pub climbs-requires-clause-parented : goal.climbs-requires-clause-parented
 unfolding count
-climbs-requires-clause-parented c = parented _ (sized (goal.at.climbs-requires-clause-parented c).In_ok-need) (passed _ _ c.read_all.ensures c.in_ok-read_all.was)
+climbs-requires-clause-parented c = parented _ (sized (goal.at.climbs-requires-clause-parented c).In_ok-need) (passed _ _ c.read_all.ensures.checks c.in_ok-ordered.was)
 
 pub climbs-requires-clause-counted : goal.climbs-requires-clause-counted
 unfolding count
 climbs-requires-clause-counted c = refl
 
-pub returns-in_err-read_all : goal.returns-in_err-read_all
+pub returns-in_err-ordered : goal.returns-in_err-ordered
 unfolding check_as count
-returns-in_err-read_all c =
-    let e : c.from_residual-in_err-read_all.result ≡ Err c.in_err-read_all.field-0.0 = search rules in
-    rw e (sym (form-read _ (sized (goal.at.returns-in_err-read_all c).In_ok-need) (refused-by _ _ c.read_all.ensures c.in_err-read_all.was)))
+returns-in_err-ordered c =
+    let e : c.from_residual-in_err-ordered.result ≡ Err c.in_err-ordered.field-0.0 = search rules in
+    rw e (sym (form-read _ (sized (goal.at.returns-in_err-ordered c).In_ok-need) (refused-by _ _ c.read_all.ensures.checks c.in_err-ordered.was)))
 
 pub returns : goal.returns
 unfolding count
-returns c = c.climbs.ensures ∙ sym (form-climb _ (sized (goal.at.returns c).In_ok-need) (passed _ _ c.read_all.ensures c.in_ok-read_all.was))
+returns c = c.climbs.ensures ∙ sym (form-climb _ (sized (goal.at.returns c).In_ok-need) (passed _ _ c.read_all.ensures.checks c.in_ok-ordered.was))

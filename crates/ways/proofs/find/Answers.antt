@@ -1,7 +1,7 @@
 -- `ways::find` meets its contract: by the parent's note and the record, or by the climb.
-use Rattle.std.proofs.Common.{◌<◌, ◌≤◌, length, refl, arith, rules}
+use Rattle.std.proofs.Common.{◌<◌, ◌≤◌, length, arith, rules}
 use Rattle.model.specs.Records.{count}
-use Rattle.ways.specs.Laws.{finding-next, noted-there, note-more, parent-inside, parent-read, whole_in}
+use Rattle.ways.specs.Laws.{noted-there, parent-inside, whole_in}
 use Rattle.ways.proofs.find.Given.{Over}
 use Rattle.ways.proofs.find.Goals as goal
 use Rattle.ways.proofs.find.Goals.{After-parent_of-parent}
@@ -28,16 +28,8 @@ bounds g c = parent-room g (goal.at.bounds g c).After-parent_of-parent
 pub bounds-notes-parent-in-Some-1 : goal.bounds-notes-parent-in-Some-1
 bounds-notes-parent-in-Some-1 g c = parent-room g (goal.at.bounds-notes-parent-in-Some-1 g c).After-parent_of-parent
 
-pub make-found-requires : goal.make-found-requires
-make-found-requires g c = record {
-  some = c.requires.some;
-  whole = whole_in _ _ c.requires.inside;
-  labelled = c.requires.noting.passable.parented.labels _;
-}
-
-pub returns-clause-noted : goal.returns-clause-noted
-returns-clause-noted g c =
+pub note_one-requires : goal.note_one-requires
+note_one-requires g c =
     let n = c.requires.noting in
-    let l = parent-in g (goal.at.returns-clause-noted g c).After-parent_of-parent in
-    let f = n.told _ _ l (noted-there n.passable _ l _ c.in-Some.is) in
-    note-more n _ c.requires.inside _ (rw c.make-found.ensures (finding-next _ n.passable.parented _ c.requires.some _ refl _ (parent-read n.passable.parented _ _ c.parent_of-parent.ensures) f))
+    let l = parent-in g (goal.at.note_one-requires g c).After-parent_of-parent in
+    record { noting = n; inside = c.requires.inside; some = c.requires.some; found = rw (← c.parent_of-parent.ensures) (n.told _ _ l (noted-there n.passable _ l _ c.in-Some.is)) }

@@ -1,0 +1,3 @@
+-- What the contracts cite, and laws that the proofs cite.
+pub mod Pairs
+pub mod Laws
