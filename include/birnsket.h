@@ -60,9 +60,10 @@
  *                             capability
  *               byte 2        name, 0 to 63: an ambient bears it, a
  *                             capability targets it
+ *               byte 3        zero
  *               bytes 4, 5    the parent's number, low byte first: 0 or a
  *                             record that is not gone
- *               bytes 3, 6, 7 zero
+ *               bytes 6, 7    the client's number, 0 to 999, low byte first
  *             A gone record is eight zero bytes. Climbing from a record to its
  *             parent, as often as there are records, must reach 0.
  *  policy     64 bytes, one a label: 0 low, 1 high, 2 boundary. Byte 0, the
@@ -188,7 +189,7 @@ extern "C" {
 #endif
 
 /* The version of this header; see VERSION above. */
-#define HUB_VERSION 0x020100u
+#define HUB_VERSION 0x030000u
 
 /* Lengths in bytes, and how many records and steps there can be. */
 #define HUB_RECORD_LENGTH 8
@@ -221,7 +222,7 @@ enum { HUB_EXPOSED = 1, HUB_HINTED = 2, HUB_SEALED = 3 };
 enum {
     HUB_DONE = 0,
     HUB_REFUSED_LENGTH = 1,  /* the itinerary's */
-    HUB_REFUSED_FORM = 2,    /* kind, spare bytes, gone record not all 0 */
+    HUB_REFUSED_FORM = 2,    /* kind, byte 3, client, gone record not all 0 */
     HUB_REFUSED_LABEL = 3,
     HUB_REFUSED_NAME = 4,
     HUB_REFUSED_PARENT = 5,
@@ -472,12 +473,13 @@ HubScreenResult hub_screen(uint8_t *itinerary, size_t itinerary_length,
  * caller's: the helpers check no length.
  */
 
-/* What a record says; its spare bytes aren't looked at. */
+/* What a record says; byte 3 isn't looked at. */
 typedef struct HubRecord {
     uint8_t kind;
     uint8_t label;
     uint8_t name;
     uint16_t parent;
+    uint16_t client;
 } HubRecord;
 
 typedef struct HubStep {
@@ -485,9 +487,10 @@ typedef struct HubStep {
     uint16_t partner;
 } HubStep;
 
-/* Writes the HUB_RECORD_LENGTH bytes of a record, spare ones zero. */
+/* Writes the HUB_RECORD_LENGTH bytes of a record, byte 3 zero. */
 static inline void hub_write_record(uint8_t *bytes, uint8_t kind, uint8_t label,
-                                    uint8_t name, uint16_t parent)
+                                    uint8_t name, uint16_t parent,
+                                    uint16_t client)
 {
     bytes[0] = kind;
     bytes[1] = label;
@@ -495,8 +498,8 @@ static inline void hub_write_record(uint8_t *bytes, uint8_t kind, uint8_t label,
     bytes[3] = 0;
     bytes[4] = (uint8_t)(parent & 255u);
     bytes[5] = (uint8_t)(parent >> 8);
-    bytes[6] = 0;
-    bytes[7] = 0;
+    bytes[6] = (uint8_t)(client & 255u);
+    bytes[7] = (uint8_t)(client >> 8);
 }
 
 /* Reads the 8 bytes of a record. */
@@ -507,6 +510,7 @@ static inline HubRecord hub_read_record(const uint8_t *bytes)
     record.label = bytes[1];
     record.name = bytes[2];
     record.parent = (uint16_t)(bytes[4] | (unsigned)bytes[5] << 8);
+    record.client = (uint16_t)(bytes[6] | (unsigned)bytes[7] << 8);
     return record;
 }
 
@@ -538,7 +542,8 @@ static inline const char *hub_cause(uint32_t number)
     case HUB_REFUSED_LENGTH:
         return "itinerary length no multiple of 8, or over 8,192";
     case HUB_REFUSED_FORM:
-        return "kind over 4, a spare byte not 0, or a gone record not all 0";
+        return "kind over 4, byte 3 not 0, a client over 999, or a gone record "
+               "not all 0";
     case HUB_REFUSED_LABEL:
         return "label wrong for its kind";
     case HUB_REFUSED_NAME:

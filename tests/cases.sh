@@ -2,8 +2,8 @@
 
 # byte N..: the bytes of these numbers
 byte() { for n in "$@"; do printf "\\$(printf '%03o' "$n")"; done; }
-# rec KIND LABEL NAME PARENT: a record
-rec() { byte "$1" "$2" "$3" 0 $(($4 % 256)) $(($4 / 256)) 0 0; }
+# rec KIND LABEL NAME PARENT [CLIENT]: a record
+rec() { byte "$1" "$2" "$3" 0 $(($4 % 256)) $(($4 / 256)) $((${5:-0} % 256)) $((${5:-0} / 256)); }
 # step ACTOR PARTNER: a step of a script
 step() { byte $(($1 % 256)) $(($1 / 256)) $(($2 % 256)) $(($2 / 256)); }
 # zeros N

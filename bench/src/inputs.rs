@@ -2,6 +2,7 @@
 
 use crate::timing::TURN;
 use birnsket::TABLE_LENGTH;
+use simulator::generate::clients;
 use simulator::generate::examples::{far_down, runs};
 use simulator::generate::policies;
 use simulator::generate::trees::{chain, tree, Links, Mix};
@@ -79,11 +80,11 @@ impl Lent {
 const LONGEST_LIST: usize = 1 << 20;
 
 fn ambient(label: usize, name: u8, parent: usize) -> Record {
-    Record { kind: Kind::Ambient, label: label as u8, name, parent: parent as u16 }
+    Record { kind: Kind::Ambient, label: label as u8, name, parent: parent as u16, client: 0 }
 }
 
 fn order(kind: Kind, label: usize, name: u8, parent: usize) -> Record {
-    Record { kind, label: label as u8, name, parent: parent as u16 }
+    Record { kind, label: label as u8, name, parent: parent as u16, client: 0 }
 }
 
 /// 1,024 ambients, each the parent of the next.
@@ -107,6 +108,7 @@ fn wide() -> Mix {
         labels: 63,
         orders: 64,
         names: 64,
+        clients: 0,
     }
 }
 
@@ -132,25 +134,36 @@ fn in_file_order(itinerary: &Itinerary) -> Itinerary {
 }
 
 /// Several of one kind, so that the processor can't learn one by heart.
-fn several(seed: u64, mix: &Mix) -> Vec<Lent> {
+fn several(seed: u64, mix: &Mix) -> Vec<Itinerary> {
     let mut random = Random::new(seed);
-    (0..TURN).map(|_| Lent::of(&tree(&mut random, mix)).about(500, 1)).collect()
+    (0..TURN).map(|_| tree(&mut random, mix)).collect()
 }
 
-/// Every label, order and name, at random.
+fn lent(itineraries: Vec<Itinerary>) -> Vec<Lent> {
+    itineraries.iter().map(|itinerary| Lent::of(itinerary).about(500, 1)).collect()
+}
+
+/// Nine records in ten with a client, drawn behind the trees: all else is as it is without clients, so that times
+/// stay comparable with older ones.
+fn with_clients(mut itineraries: Vec<Itinerary>) -> Vec<Itinerary> {
+    let mut random = Random::new(3);
+    itineraries.iter_mut().for_each(|itinerary| clients::give(&mut random, 90, itinerary));
+    itineraries
+}
+
+/// Every label, order and name, at random, with clients.
 pub fn random() -> Vec<Lent> {
-    several(1, &wide())
+    lent(with_clients(several(1, &wide())))
 }
 
 /// The same, each numbered in file order.
 pub fn filed() -> Vec<Lent> {
-    let mut random = Random::new(1);
-    (0..TURN).map(|_| Lent::of(&in_file_order(&tree(&mut random, &wide()))).about(500, 1)).collect()
+    lent(with_clients(several(1, &wide())).iter().map(in_file_order).collect())
 }
 
 /// Few names, so that nearly every ambient can go nearly anywhere.
 pub fn dense() -> Vec<Lent> {
-    several(2, &Mix { names: 2, ..wide() })
+    lent(several(2, &Mix { names: 2, ..wide() }))
 }
 
 /// An ambient and 1,023 capabilities, each behind the other: every container is a

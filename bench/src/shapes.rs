@@ -58,7 +58,7 @@ fn done_below(kind: Kind, reversed: bool) -> Itinerary {
     let end = itinerary.records[deepest - 1];
     let added = match kind {
         Kind::Open => Record { kind: Kind::Ambient, label: 1, ..end },
-        _ => Record { kind, label: 64, name: end.name, parent: deepest as u16 },
+        _ => Record { kind, label: 64, name: end.name, parent: deepest as u16, client: 0 },
     };
     itinerary.records.push(added);
     if kind == Kind::In {

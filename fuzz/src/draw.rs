@@ -6,7 +6,8 @@ use crate::families::Family;
 use crate::overlaps;
 use crate::rings;
 use crate::rooms::MOST;
-use simulator::generate::damage::damage;
+use simulator::generate::clients;
+use simulator::generate::damage::{damage, spoil_client};
 use simulator::generate::examples;
 use simulator::generate::policies;
 use simulator::generate::relabel::Relabel;
@@ -15,7 +16,7 @@ use simulator::generate::tables;
 use simulator::generate::trees::{chain, tree, Links, Mix};
 use simulator::law::Law;
 use simulator::random::Random;
-use simulator::record::{Itinerary, Kind, Record, MOST_RECORDS};
+use simulator::record::{Itinerary, Kind, Record, MOST_RECORDS, RECORD_LENGTH};
 use simulator::steps;
 use simulator::table::{Policy, POLICY_LENGTH, TABLE_LENGTH};
 
@@ -50,6 +51,9 @@ fn draw_bench(random: &mut Random, family: Family) -> (Itinerary, Policy) {
         Family::Ring => rings::some_ring(random),
         Family::FullRing => rings::full_ring(random),
         Family::TailIntoRing => rings::tail_into_ring(random),
+        Family::Clients | Family::BadClient => {
+            of_mix(random, |random| Mix { clients: 100, gone: 15, ..Mix::lively(random) })
+        }
         _ if random.chance(50) => of_mix(random, Mix::small),
         _ => of_mix(random, Mix::lively),
     };
@@ -64,7 +68,8 @@ fn draw_bench(random: &mut Random, family: Family) -> (Itinerary, Policy) {
 fn draw_chain(random: &mut Random) -> Itinerary {
     let kind = random.pick(&[Kind::In, Kind::Out, Kind::Open]);
     let links = random.pick(&[Links::Ambients, Links::Capabilities, Links::Turns, Links::LastActs(kind)]);
-    chain(random.pick(&[255, 256, 257, 1023, 1024]), links, random.chance(50))
+    let links = chain(random.pick(&[255, 256, 257, 1023, 1024]), links, random.chance(50));
+    clients::given(random, 70, &links)
 }
 
 /// 512 ambients and as many capabilities that can open each of them, now and then a few less; in any order or one
@@ -81,6 +86,8 @@ fn half_opens(random: &mut Random) -> Itinerary {
             itinerary.records[place] = Record::GONE;
         }
     }
+    let share = random.pick(&[0, 80]);
+    clients::give(random, share, &mut itinerary);
     itinerary
 }
 
@@ -102,6 +109,19 @@ fn spoil(random: &mut Random, bytes: &mut Vec<u8>) {
         23 => bytes.iter_mut().for_each(|byte| *byte = random.byte()),
         24 if random.chance(5) => bytes.resize(random.pick(&[8184, 8191, 8192, 8193, 8200]), 0),
         _ => {}
+    }
+}
+
+/// A client that is refused, on a record that stands or on a new gone one; now and then with another fault of 3 to 5,
+/// in that record or elsewhere.
+fn bad_client(random: &mut Random, bytes: &mut Vec<u8>) {
+    if !random.chance(70) || !spoil_client(random, bytes, false) {
+        bytes.extend([0; RECORD_LENGTH]);
+        spoil_client(random, bytes, true);
+    }
+    if random.chance(30) {
+        let cause = random.between(3, 5) as u8;
+        damage(random, bytes, cause);
     }
 }
 
@@ -187,6 +207,9 @@ impl Case {
             Family::Small | Family::Medium | Family::Large | Family::Full | Family::Hinted | Family::Crowded
         ) {
             spoil(random, &mut bytes);
+        }
+        if family == Family::BadClient {
+            bad_client(random, &mut bytes);
         }
         let sheet = vec![random.byte(); bytes.len()];
         let list = vec![random.byte(); random.below(40)];

@@ -22,6 +22,9 @@ pub enum Family {
     Ring,
     FullRing,
     TailIntoRing,
+    /// Each record has a client; the same, but one that is refused.
+    Clients,
+    BadClient,
     /// That buffer far over its limit.
     Long(Buffer),
     PolicyInTable,
@@ -35,7 +38,7 @@ pub enum Family {
 use Family::*;
 
 /// Each with how many of 4,000 cases are of it; what is left is small.
-pub const FAMILIES: [(Family, usize); 25] = [
+pub const FAMILIES: [(Family, usize); 27] = [
     (Small, 0),
     (Medium, 60),
     (Large, 8),
@@ -48,6 +51,8 @@ pub const FAMILIES: [(Family, usize); 25] = [
     (Ring, 6),
     (FullRing, 4),
     (TailIntoRing, 6),
+    (Clients, 60),
+    (BadClient, 60),
     (Long(Buffer::Itinerary), 6),
     (Long(Buffer::Policy), 6),
     (Long(Buffer::Table), 6),
@@ -90,6 +95,8 @@ impl Family {
             Ring => "ring of 1 to 1,023".to_string(),
             FullRing => "ring of 1,024".to_string(),
             TailIntoRing => "tail into a ring".to_string(),
+            Clients => "clients on each record".to_string(),
+            BadClient => "a client that is refused".to_string(),
             Long(buffer) => format!("{} far over its limit", buffer.name()),
             PolicyInTable => "policy in table".to_string(),
             PolicyInItinerary => "policy in itinerary".to_string(),
@@ -102,7 +109,7 @@ impl Family {
 
     /// Whether calls that see what makes it can be done. No row request is ever refused, and no list too long.
     pub fn can_be_done(self) -> bool {
-        !matches!(self, Ring | FullRing | TailIntoRing)
+        !matches!(self, Ring | FullRing | TailIntoRing | BadClient)
             && (matches!(self, Long(Buffer::Table | Buffer::List)) || !matches!(self, Long(_)))
     }
 

@@ -2,6 +2,7 @@
 
 use crate::buffers::{Buffer, Buffers, Overlap};
 use crate::families::Family;
+use simulator::generate::clients;
 use simulator::generate::tables;
 use simulator::law::Law;
 use simulator::random::Random;
@@ -43,7 +44,10 @@ fn like_table(random: &mut Random) -> Itinerary {
         let label = if kind == Kind::Ambient { random.between(1, 63) } else { random.between(64, 127) };
         records.push(match kind {
             Kind::Gone => Record::GONE,
-            _ => Record { kind, label: label as u8, name: random.below(64) as u8, parent },
+            _ => {
+                let client = clients::draw(random, 50);
+                Record { kind, label: label as u8, name: random.below(64) as u8, parent, client }
+            }
         });
     }
     Itinerary { records }

@@ -1,16 +1,17 @@
 //! Itineraries in which climbing goes round for ever.
 
+use simulator::generate::clients;
 use simulator::random::Random;
 use simulator::record::{Itinerary, Kind, Record, MOST_RECORDS};
 
 fn link(random: &mut Random, parent: u16) -> Record {
-    let name = random.below(64) as u8;
+    let (name, client) = (random.below(64) as u8, clients::draw(random, 50));
     match random.below(4) {
         0 => {
             let kind = random.pick(&[Kind::In, Kind::Out, Kind::Open]);
-            Record { kind, label: 64 + random.below(64) as u8, name, parent }
+            Record { kind, label: 64 + random.below(64) as u8, name, parent, client }
         }
-        _ => Record { kind: Kind::Ambient, label: random.between(1, 63) as u8, name, parent },
+        _ => Record { kind: Kind::Ambient, label: random.between(1, 63) as u8, name, parent, client },
     }
 }
 

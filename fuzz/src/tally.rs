@@ -3,6 +3,7 @@
 use crate::buffers::{Buffer, Buffers};
 use crate::calls::{Answer, Call};
 use crate::families::{Family, FAMILIES};
+use simulator::record::LAST_CLIENT;
 use std::collections::BTreeMap;
 
 /// Calls after which each answer of each call is met by far.
@@ -39,6 +40,17 @@ pub fn call_named(name: &str) -> Option<&'static str> {
     OWN_NUMBERS.iter().map(|(call, _)| *call).find(|call| *call == name)
 }
 
+/// Whether that record, refused with 2, has no other fault of form than its client: over 999, or on a gone record.
+fn client_refused(itinerary: &[u8], record: u32) -> bool {
+    let start = 8 * (record as usize).saturating_sub(1);
+    let Some(bytes) = itinerary.get(start..start + 8) else { return false };
+    let client = u16::from_le_bytes([bytes[6], bytes[7]]);
+    match bytes[0] {
+        0 => bytes[1..6].iter().all(|&byte| byte == 0) && client > 0,
+        kind => kind <= 4 && bytes[3] == 0 && client > LAST_CLIENT,
+    }
+}
+
 #[derive(Default)]
 pub struct Tally {
     calls: u64,
@@ -50,6 +62,8 @@ pub struct Tally {
     verdicts: BTreeMap<(&'static str, u32), u64>,
     exposed: [u64; 2],
     lists: [u64; 5],
+    /// Refused with 2 for nothing but a client.
+    clients: BTreeMap<&'static str, u64>,
 }
 
 impl Tally {
@@ -68,6 +82,9 @@ impl Tally {
     pub fn add(&mut self, call: Call, answer: &Answer, after: &Buffers) {
         self.calls += 1;
         *self.numbers.entry((call.name(), answer[0])).or_default() += 1;
+        if answer[0] == 2 && client_refused(&after.itinerary, answer[1]) {
+            *self.clients.entry(call.name()).or_default() += 1;
+        }
         if answer[0] != 0 {
             return;
         }
@@ -122,6 +139,9 @@ impl Tally {
             let numbers = common.iter().chain(own);
             let absent = numbers.filter(|&&number| !self.numbers.contains_key(&(call, number)));
             missing.extend(absent.map(|number| format!("{call} {number}")));
+            if call != "row" && !self.clients.contains_key(call) {
+                missing.push(format!("{call} 2 by a client"));
+            }
         }
         for call in ["verdict", "screen"] {
             let absent = (1..4).filter(|&code| !self.verdicts.contains_key(&(call, code)));
@@ -144,6 +164,9 @@ impl Tally {
         println!("call answer count");
         for ((call, number), count) in &self.numbers {
             println!("{call} {number} {count}");
+        }
+        for (call, count) in &self.clients {
+            println!("{call} 2 by a client {count}");
         }
         for ((call, code), count) in &self.verdicts {
             println!("{call} {} {count}", VERDICTS[*code as usize]);
@@ -172,6 +195,20 @@ mod tests {
     }
 
     #[test]
+    fn refusal_2_by_a_client_is_told_apart() {
+        let by_client: [[u8; 8]; 3] =
+            [[1, 1, 0, 0, 0, 0, 0xe8, 3], [4, 0, 99, 0, 9, 9, 0, 4], [0, 0, 0, 0, 0, 0, 17, 0]];
+        let otherwise: [[u8; 8]; 3] =
+            [[5, 1, 0, 0, 0, 0, 0xe8, 3], [1, 1, 0, 1, 0, 0, 0xe8, 3], [0, 1, 0, 0, 0, 0, 17, 0]];
+        for record in by_client {
+            assert!(client_refused(&[[1, 1, 0, 0, 0, 0, 0, 0], record].concat(), 2));
+        }
+        for record in otherwise {
+            assert!(!client_refused(&record, 1));
+        }
+    }
+
+    #[test]
     fn each_family_that_was_not_seen_is_missing() {
         let mut tally = Tally::default();
         (0..=FAMILIES.len()).for_each(|_| tally.add_case());
@@ -194,6 +231,7 @@ mod tests {
         assert!(
             missing.contains(&"moves 15".to_string()) && missing.contains(&"list as long as any".to_string())
         );
+        assert!(missing.contains(&"run 2 by a client".to_string()));
         assert!(missing.contains(&"exposed 9".to_string()) && missing.contains(&"exposed yes".to_string()));
         assert!(!missing.contains(&"validate 0".to_string()));
     }

@@ -4,6 +4,8 @@ use crate::answer::{refuse, Refusal};
 
 pub const RECORD_LENGTH: usize = 8;
 pub const MOST_RECORDS: usize = 1024;
+/// The last client number; 0 is one too.
+pub const LAST_CLIENT: u16 = 999;
 
 #[derive(Clone, Copy, Debug, PartialEq, Eq, PartialOrd, Ord)]
 pub enum Kind {
@@ -28,14 +30,15 @@ pub struct Record {
     pub label: u8,
     pub name: u8,
     pub parent: u16,
+    pub client: u16,
 }
 
 impl Record {
-    pub const GONE: Record = Record { kind: Kind::Gone, label: 0, name: 0, parent: 0 };
+    pub const GONE: Record = Record { kind: Kind::Gone, label: 0, name: 0, parent: 0, client: 0 };
 
     pub fn bytes(&self) -> [u8; RECORD_LENGTH] {
-        let parent = self.parent.to_le_bytes();
-        [self.kind as u8, self.label, self.name, 0, parent[0], parent[1], 0, 0]
+        let (parent, client) = (self.parent.to_le_bytes(), self.client.to_le_bytes());
+        [self.kind as u8, self.label, self.name, 0, parent[0], parent[1], client[0], client[1]]
     }
 
     /// The meaning of eight bytes that are known to have no fault.
@@ -45,12 +48,17 @@ impl Record {
             label: bytes[1],
             name: bytes[2],
             parent: parent_of(bytes),
+            client: client_of(bytes),
         }
     }
 }
 
 fn parent_of(bytes: &[u8]) -> u16 {
     u16::from_le_bytes([bytes[4], bytes[5]])
+}
+
+fn client_of(bytes: &[u8]) -> u16 {
+    u16::from_le_bytes([bytes[6], bytes[7]])
 }
 
 /// Records that passed 1 to 6. Record number k is `records[k - 1]`.
@@ -81,6 +89,12 @@ impl Itinerary {
 
     pub fn bytes(&self) -> Vec<u8> {
         self.records.iter().flat_map(Record::bytes).collect()
+    }
+
+    /// The same with client 0 on every record.
+    pub fn without_clients(&self) -> Itinerary {
+        let one = |record: &Record| Record { client: 0, ..*record };
+        Itinerary { records: self.records.iter().map(one).collect() }
     }
 
     pub fn count(&self) -> usize {
@@ -153,11 +167,11 @@ fn record_fault(all: &[u8], number: usize) -> Option<u8> {
     let record = |number: usize| &all[(number - 1) * RECORD_LENGTH..number * RECORD_LENGTH];
     let bytes = record(number);
     let (kind, label, name) = (bytes[0], bytes[1], bytes[2]);
-    if kind > 4 || bytes[3] != 0 || bytes[6] != 0 || bytes[7] != 0 {
+    if kind > 4 || bytes[3] != 0 || client_of(bytes) > LAST_CLIENT {
         return Some(2);
     }
     if kind == 0 {
-        // A gone record has no label, name or parent that 3 to 5 could be about.
+        // A gone record has no client, and no label, name or parent that 3 to 5 could be about.
         return if bytes.iter().any(|&byte| byte != 0) { Some(2) } else { None };
     }
     let fitting = if kind == 1 { 1..=63 } else { 64..=127 };

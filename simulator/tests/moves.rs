@@ -191,6 +191,6 @@ fn who_can_act_is_looked_at_all_the_way_up() {
     let acts = |record: &&Record| record.kind == Kind::Out && record.name == name;
     assert_eq!(outs(&itinerary), itinerary.records.iter().filter(acts).count());
     assert!(outs(&itinerary) > 0);
-    itinerary.records[0] = Record { kind: Kind::Open, label: 64, name: 5, parent: 0 };
+    itinerary.records[0] = Record { kind: Kind::Open, label: 64, name: 5, parent: 0, client: 0 };
     assert_eq!((outs(&itinerary), moves(&itinerary.bytes()).1[2]), (0, 99 * 179));
 }

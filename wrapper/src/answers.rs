@@ -21,7 +21,7 @@ impl Refusal {
     pub fn cause(&self) -> &'static str {
         match self.number {
             1 => "itinerary length no multiple of 8, or over 8,192",
-            2 => "kind over 4, a spare byte not 0, or a gone record not all 0",
+            2 => "kind over 4, byte 3 not 0, a client over 999, or a gone record not all 0",
             3 => "label wrong for its kind",
             4 => "name over 63",
             5 => "parent over the record count, or a record of kind 0",

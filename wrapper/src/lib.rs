@@ -57,6 +57,9 @@ pub fn version() -> u32 {
 /// assert_eq!(validate(&[1, 1, 0, 0, 0, 0, 0, 0, 1, 2, 1, 0, 1, 0, 0, 0]), Ok(2));
 /// // A record that is its own parent.
 /// assert_eq!(validate(&[1, 1, 0, 0, 1, 0, 0, 0]), Err(Refusal { number: 6, record: 1 }));
+/// // Client 999, the last one, and 1,000.
+/// assert_eq!(validate(&[1, 1, 0, 0, 0, 0, 0xe7, 3]), Ok(1));
+/// assert_eq!(validate(&[1, 1, 0, 0, 0, 0, 0xe8, 3]), Err(Refusal { number: 2, record: 1 }));
 /// ```
 pub fn validate(itinerary: &[u8]) -> Result<u32, Refusal> {
     let result = unsafe { raw::hub_validate(itinerary.as_ptr(), itinerary.len()) };

@@ -1,7 +1,7 @@
 //! The entries as the archive has them. What a caller owes is in include/birnsket.h.
 
 /// HUB_VERSION of the header that these declarations follow.
-pub const HUB_VERSION: u32 = 0x020100;
+pub const HUB_VERSION: u32 = 0x030000;
 
 /// Results: number and record 0 and the fields named where the call is done, else a refusal's number and record
 /// and zeros.

@@ -19,6 +19,15 @@ fn bytes(records: &[Fields]) -> Vec<u8> {
     records.iter().flat_map(record).collect()
 }
 
+/// The same records, each with a client.
+fn with_clients(records: &[Fields], clients: &[u16]) -> Vec<u8> {
+    let mut itinerary = bytes(records);
+    for (record, client) in itinerary.chunks_exact_mut(8).zip(clients) {
+        record[6..].copy_from_slice(&client.to_le_bytes());
+    }
+    itinerary
+}
+
 /// Label 1 boundary, 2 high, every other low.
 fn usual() -> Vec<u8> {
     let mut policy = vec![0; POLICY_LENGTH];
@@ -108,6 +117,32 @@ fn example_b() {
     let mut itinerary = bytes(&B);
     assert_eq!(step(&mut itinerary, 3, 1), Ok(()));
     assert_eq!(itinerary, bytes(&[A[0], (1, 2, 1, 0), (0, 0, 0, 0)]));
+}
+
+#[test]
+fn example_b_clients() {
+    let (mut itinerary, policy) = (with_clients(&B, &[17, 999, 256]), usual());
+    assert_eq!(validate(&itinerary), Ok(3));
+    let (mut table, mut plain) = ([0; TABLE_LENGTH], [7; TABLE_LENGTH]);
+    assert_eq!(make(&itinerary, &policy, &mut table), make(&bytes(&B), &policy, &mut plain));
+    assert_eq!(table, plain);
+    let mut shown = [7; 24];
+    sheet(&itinerary, &table, &mut shown).unwrap();
+    assert_eq!(shown[..], with_clients(&[A[0], (0, 0, 0, 0), (0, 0, 0, 0)], &[17, 0, 0]));
+    // What moves keeps its client; the capability's goes with it.
+    assert_eq!(step(&mut itinerary, 3, 1), Ok(()));
+    assert_eq!(itinerary, with_clients(&[A[0], (1, 2, 1, 0), (0, 0, 0, 0)], &[17, 999, 0]));
+}
+
+#[test]
+fn clients_refused() {
+    assert_eq!(validate(&with_clients(&A, &[0, 1000])), Err(refusal(2, 2)));
+    assert_eq!(validate(&with_clients(&A, &[1024, 0])), Err(refusal(2, 1)));
+    assert_eq!(validate(&with_clients(&[A[0], (0, 0, 0, 0)], &[17, 17])), Err(refusal(2, 2)));
+    // Before what else is wrong with that record, behind what is with one before it.
+    let spoilt = [(1, 64, 64, 3), (1, 1, 0, 0)];
+    assert_eq!(validate(&with_clients(&spoilt, &[1000, 1000])), Err(refusal(2, 1)));
+    assert_eq!(validate(&with_clients(&spoilt, &[999, 1000])), Err(refusal(3, 1)));
 }
 
 #[test]
@@ -308,8 +343,8 @@ fn defined(name: &str) -> &'static str {
 
 #[test]
 fn the_header_has_the_same_numbers() {
-    assert_eq!(defined("HUB_VERSION "), "0x020100u");
-    assert_eq!((raw::HUB_VERSION, version()), (0x020100, 0x020100));
+    assert_eq!(defined("HUB_VERSION "), "0x030000u");
+    assert_eq!((raw::HUB_VERSION, version()), (0x030000, 0x030000));
     assert_eq!(defined("HUB_POLICY_LENGTH "), POLICY_LENGTH.to_string());
     assert_eq!(defined("HUB_TABLE_LENGTH "), TABLE_LENGTH.to_string());
     assert_eq!(defined("HUB_LONGEST_LIST "), LONGEST_LIST.to_string());

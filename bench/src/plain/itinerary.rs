@@ -9,6 +9,7 @@ pub const AMBIENT: u8 = 1;
 pub const IN: u8 = 2;
 pub const OUT: u8 = 3;
 pub const OPEN: u8 = 4;
+const LAST_CLIENT: u16 = 999;
 
 #[derive(Clone, Copy)]
 pub struct Record {
@@ -16,14 +17,16 @@ pub struct Record {
     pub label: u8,
     pub name: u8,
     pub parent: u16,
+    pub client: u16,
 }
 
 impl Record {
-    pub const GONE: Record = Record { kind: 0, label: 0, name: 0, parent: 0 };
+    pub const GONE: Record = Record { kind: 0, label: 0, name: 0, parent: 0, client: 0 };
 
     pub fn read(bytes: &[u8]) -> Record {
         let parent = u16::from_le_bytes([bytes[4], bytes[5]]);
-        Record { kind: bytes[0], label: bytes[1], name: bytes[2], parent }
+        let client = u16::from_le_bytes([bytes[6], bytes[7]]);
+        Record { kind: bytes[0], label: bytes[1], name: bytes[2], parent, client }
     }
 
     /// Record `number`, gone for 0 and over the count.
@@ -44,12 +47,12 @@ pub fn records(itinerary: &[u8]) -> impl Iterator<Item = Record> + '_ {
 /// The first of 2 to 5 that a record breaks.
 fn fault(itinerary: &[u8], bytes: &[u8]) -> Option<u32> {
     let record = Record::read(bytes);
-    let spare = bytes[3] | bytes[6] | bytes[7];
+    let spare = bytes[3];
     if record.kind == 0 {
-        let empty = record.label | record.name | spare == 0 && record.parent == 0;
+        let empty = record.label | record.name | spare == 0 && record.parent | record.client == 0;
         return if empty { None } else { Some(2) };
     }
-    if record.kind > OPEN || spare != 0 {
+    if record.kind > OPEN || spare != 0 || record.client > LAST_CLIENT {
         return Some(2);
     }
     let labels = if record.kind == AMBIENT { 1..=63 } else { 64..=127 };
@@ -195,4 +198,38 @@ pub fn climb(itinerary: &[u8], policy: &[u8], number: u16) -> Result<Above, Refu
         return refuse(7);
     }
     Ok(above(itinerary, policy, number))
+}
+
+#[cfg(test)]
+mod tests {
+    use super::*;
+    use simulator::generate::damage::{damage, spoil_client};
+    use simulator::generate::trees::{tree, Mix};
+    use simulator::random::Random;
+
+    /// The rows' inputs are all good.
+    #[test]
+    fn validation_is_the_simulators() {
+        let random = &mut Random::new(2);
+        let mut numbers = [0; 7];
+        for round in 0..4_000 {
+            let mix = Mix { gone: 15, clients: 80, ..Mix::lively(random) };
+            let mut bytes = tree(random, &mix).bytes();
+            match round % 4 {
+                0 => {}
+                1 => drop(spoil_client(random, &mut bytes, round % 8 == 1)),
+                _ => {
+                    let cause = random.between(1, 6) as u8;
+                    damage(random, &mut bytes, cause);
+                }
+            }
+            let answer = simulator::validate(&bytes);
+            let refusal = Refusal { number: answer.number.into(), record: answer.record.into() };
+            let wanted = if answer.number == 0 { Ok(answer.values[0]) } else { Err(refusal) };
+            assert_eq!(validate(&bytes), wanted);
+            assert_eq!(validate_skipping(&bytes).map(|(count, _)| count), wanted);
+            numbers[usize::from(answer.number)] += 1;
+        }
+        assert!(numbers.iter().all(|&times| times > 50), "{numbers:?}");
+    }
 }

@@ -21,7 +21,7 @@ use packing::verdict::HubVerdictResult;
 pub extern "C" fn hub_version() -> u32
     ensures { result ≡ version }
 {
-    131328
+    196608
 }
 
 // Validates an itinerary: the number of records.

@@ -16,7 +16,7 @@ unfoldable pub is_in : List ℕ → ℕ → Bool
 is_in [] x = false
 is_in (y ∷ ys) x = elim (eqb x y) [ true ↦ true | false ↦ is_in ys x ]
 
--- a record "as kind, label, name" and parent, before others
+-- a record "as kind, label, name" and parent, of client 0, before others
 unfoldable pub rec : ℕ → ℕ → ℕ → ℕ → List ℕ → List ℕ
 rec kind label name parent rest = kind ∷ label ∷ name ∷ 0 ∷ parent ∷ 0 ∷ 0 ∷ 0 ∷ rest
 
@@ -60,9 +60,9 @@ itinerary_f = []
 unfoldable pub itinerary_g : ℕ → ℕ → ℕ → ℕ → List ℕ
 itinerary_g kind label name parent = rec kind label name parent []
 
--- an ambient or a capability whose label and name are right: what refusals 2 to 4 leave of G's one record
+-- an ambient or a capability whose label and name are right: what refusals 2 to 4 leave of G's one record, whose client is 0
 unfoldable pub right_g : ℕ → ℕ → ℕ → Bool
-right_g kind label name = let r : Rec = record { kind = kind; label = label; name = name; parent = 0 } in nested r && (label_right r && name_right r)
+right_g kind label name = let r : Rec = record { kind = kind; label = label; name = name; parent = 0; client = 0 } in nested r && (label_right r && name_right r)
 
 -- "(1,1,0,parent 0), (3,64,0,parent 0)"
 unfoldable pub itinerary_h : ℕ → List ℕ

@@ -29,14 +29,14 @@ use Rattle.model.specs.Refusals.{and_then, answer, content, done, each_of, need,
 use Rattle.model.specs.Scripts.{after_list, answers_of, counts_of, done_by, how_many, kind_of, not_gone, step_in, steps_in, outcomes, script_right}
 use Rattle.model.specs.Steps.{answer_of, decide, dissolve, dissolved, fit, move, outcome, outcome_by, place, placed, ready, rewritten, stands, step_bytes}
 use Rattle.model.specs.Tables.{bit_at, bits, is_boundary, is_high, parts, place_h, place_i, place_s, policy_right, table_sized, test_bit, total}
-use Rattle.model.specs.Validity.{blank, climb_check, form, gone_right, kind_right, label_by, label_in, label_right, name_by, name_right, parent_right, record_check, size_right, spare_right, validity}
+use Rattle.model.specs.Validity.{blank, client_right, climb_check, form, gone_right, kind_right, label_by, label_in, label_right, name_by, name_right, parent_right, record_check, size_right, spare_right, validity}
 use Rattle.model.specs.Verdicts.{alike, growing, grown, in_r, joins, marked, opening, reached, verdict_by, verdict_of}
 use Rattle.model.specs.Numbers.{label_of}
 use Rattle.model.specs.declared.Verdict.{Verdict}
 
 -- what the examples compute with: to unfold this is to unfold all that its line names
 unfoldable pub computing : ℕ
-unfolding form entry comparing size_right kind_right spare_right blank gone_right label_in label_by label_right name_by name_right parent_right record_check climb_check validity count byte_of decode records tabulate at is_ambient nested view_from reaches need and_then each_of view labelled capability every only_if rule_holds rules_hold record_holds holds is_high place_i place_h place_s is_in some_of lowest marked alike joins grown growing reached opening in_r is_boundary verdict_by verdict_of encode update_from ambient_and placed place dissolved dissolve ready stands fit move decide outcome_by outcome answer_of rewritten step_bytes outcome_check stepping step_answer step_after answer content step_in steps_in script_right after_list outcomes answers_of running run_after run_answers after_event after kept steps_of all_steps given_by given hides is_suspect sheet on_sheet policy_right total bytes numeral one_if ones ones_in validate_answer screening tally not_gone counts_of how_many done_by kind_of screen_answers content_of digits_in field last_field verdict_word end_word refused_word step_lines end_line listing label_of rec classes all_low records_a itinerary_a itinerary_b itinerary_c itinerary_d itinerary_e itinerary_f itinerary_g itinerary_h
+unfolding form entry comparing size_right kind_right spare_right client_right blank gone_right label_in label_by label_right name_by name_right parent_right record_check climb_check validity count byte_of decode records tabulate at is_ambient nested view_from reaches need and_then each_of view labelled capability every only_if rule_holds rules_hold record_holds holds is_high place_i place_h place_s is_in some_of lowest marked alike joins grown growing reached opening in_r is_boundary verdict_by verdict_of encode update_from ambient_and placed place dissolved dissolve ready stands fit move decide outcome_by outcome answer_of rewritten step_bytes outcome_check stepping step_answer step_after answer content step_in steps_in script_right after_list outcomes answers_of running run_after run_answers after_event after kept steps_of all_steps given_by given hides is_suspect sheet on_sheet policy_right total bytes numeral one_if ones ones_in validate_answer screening tally not_gone counts_of how_many done_by kind_of screen_answers content_of digits_in field last_field verdict_word end_word refused_word step_lines end_line listing label_of rec classes all_low records_a itinerary_a itinerary_b itinerary_c itinerary_d itinerary_e itinerary_f itinerary_g itinerary_h
 computing = 0
 
 unfoldable pub all_below : ℕ → List ℕ → Bool

@@ -22,17 +22,17 @@ listed s policy table =
     text_or [] (and_then (making s policy table) (listable s after)) (list_of (records s) (suspects after))
 
 -- a listing by any table has room
-pub room_for : (s table : List ℕ) → listable s table ≡ pass → length (list_of (records s) (suspects table)) ≤ 1075200
+pub room_for : (s table : List ℕ) → listable s table ≡ pass → length (list_of (records s) (suspects table)) ≤ 1079296
 unfolding listable
 room_for s table h = list-short s (then-pass _ _ h).0 (suspects table)
 
 module _ (s policy table : List ℕ) where
-  pub listed-fits : {n : ℕ} → n ≡ length (listed s policy table) → n ≤ 1075200
+  pub listed-fits : {n : ℕ} → n ≡ length (listed s policy table) → n ≤ 1079296
   unfolding listed
   listed-fits e =
       let after = make_after s policy table in
       let c = and_then (making s policy table) (listable s after) in
-      omega (arith, or_short [] c (list_of (records s) (suspects after)) 1075200 (omega arith) (λ h. room_for s after (then-pass _ _ h).1))
+      omega (arith, or_short [] c (list_of (records s) (suspects after)) 1079296 (omega arith) (λ h. room_for s after (then-pass _ _ h).1))
 
   module _ (r : Result ℕ Refusal) (e : answer_as r ≡ make_answer s policy table) where
     pub made-refused : (x : Refusal) → r ≡ Err x → {n : ℕ} → n ≡ 0 → (t : List ℕ) → (n ≡ length (listed s policy table)) × (t ≡ over (listed s policy table) t)

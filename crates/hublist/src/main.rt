@@ -15,8 +15,8 @@ use text_form::WriteError;
 
 // Room for the longest listing of 1,024 lines. (The buffers are arrays: a Vec would bring an error of memory, which the
 // program doesn't have.)
-fn room() -> [u8; 1075200] {
-    [0u8; 1075200]
+fn room() -> [u8; 1079296] {
+    [0u8; 1079296]
 }
 
 // Tells a refusal, and answers how much of the text is written.
@@ -30,7 +30,7 @@ fn tell(err: &impl Print, r: Refusal) -> usize
 // Fills the text with the listing by a table, and answers its length. There is always room for it: the equations
 // hold of the arm without room only because it never comes to it.
 fn list(err: &impl Print, it: &[u8], table: &[u8], text: &mut [u8]) -> usize
-    requires { 1075200 ≤ length text.old }
+    requires { 1079296 ≤ length text.old }
     ensures length { result ≡ length (text_or [] (listable it.now table.now) (list_of (records it.now) (suspects table.now))) }
     ensures bytes { text.new ≡ over (text_or [] (listable it.now table.now) (list_of (records it.now) (suspects table.now))) text.old }
 {
@@ -43,7 +43,7 @@ fn list(err: &impl Print, it: &[u8], table: &[u8], text: &mut [u8]) -> usize
 
 // Fills the text with what the program writes by the table that it makes, and answers its length.
 fn list_made(err: &impl Print, it: &[u8], policy: &[u8], table: &mut [u8], text: &mut [u8]) -> usize
-    requires { 1075200 ≤ length text.old }
+    requires { 1079296 ≤ length text.old }
     ensures length { result ≡ length (listed it.now policy.now table.old) }
     ensures bytes { text.new ≡ over (listed it.now policy.now table.old) text.old }
     ensures table { table.new ≡ make_after it.now policy.now table.old }

@@ -11,7 +11,7 @@ unfoldable pub shown_file : Option (List ℕ) → List ℕ
 shown_file (Some s) = shown_text true s
 shown_file None = shown_text false []
 
-pub file-fits : (f : Option (List ℕ)) {n : ℕ} → n ≡ length (shown_file f) → n ≤ 1061888
+pub file-fits : (f : Option (List ℕ)) {n : ℕ} → n ≡ length (shown_file f) → n ≤ 1065984
 unfolding shown_file
 file-fits (Some s) e = text-fits true s e
 file-fits None e = text-fits false [] e

@@ -10,14 +10,14 @@ use text_form::WriteError;
 
 // Room for the longest text of 1,024 lines. (The buffers are arrays: a Vec would bring an error of memory, which the program
 // doesn't have.)
-fn room() -> [u8; 1061888] {
-    [0u8; 1061888]
+fn room() -> [u8; 1065984] {
+    [0u8; 1065984]
 }
 
 // Fills the text with what the program writes, by the file's bytes if it could be read, and answers its length. There is always
 // room for it: the equations hold of the arm without room only because it never comes to it.
 fn show_text(err: &impl Print, it: Option<&[u8]>, text: &mut [u8]) -> usize
-    requires { 1061888 ≤ length text.old }
+    requires { 1065984 ≤ length text.old }
     ensures length { result ≡ length (shown_file (option_map (λ s. s.now) it.entry)) }
     ensures bytes { text.new ≡ over (shown_file (option_map (λ s. s.now) it.entry)) text.old }
     ensures within { result ≤ length text.new }

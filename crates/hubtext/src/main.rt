@@ -13,8 +13,8 @@ const NONE: usize = 1;
 
 // Room for the longest text of 1,024 records, and one byte more, by which the reader tells that a text is longer. (The buffers
 // are arrays: a Vec would bring an error of memory, which the program doesn't have.)
-fn room() -> [u8; 1061889] {
-    [0u8; 1061889]
+fn room() -> [u8; 1065985] {
+    [0u8; 1065985]
 }
 
 // Puts what stands for an itinerary that can't be had, and answers its length.
@@ -49,7 +49,7 @@ fn main(rt: HostRuntime) {
     let err = rt.stderr();
     let mut text = room();
     let mut it = [0u8; 8192];
-    let len = files::read_most(&rt, &err, b"itinerary.txt", &mut text, 1061888);
+    let len = files::read_most(&rt, &err, b"itinerary.txt", &mut text, 1065984);
     let r = convert(&err, len.map(|n| &text[..n]), &mut it);
     files::write(&rt, &err, &it[..r]);
 }

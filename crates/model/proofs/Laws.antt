@@ -34,3 +34,4 @@ pub mod Reductions
 pub mod Chains
 pub mod Adequacy
 pub mod MoveList
+pub mod Clients

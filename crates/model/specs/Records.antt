@@ -25,22 +25,29 @@ unfoldable pub byte_of : List ℕ → ℕ → ℕ → ℕ
 byte_of s zero k = 0
 byte_of s (suc i) k = byte s (8 * i + k)
 
--- record i: byte 0 kind, byte 1 label, byte 2 name, bytes 4 and 5 the parent's number
+-- record i: byte 0 kind, byte 1 label, byte 2 name, bytes 4 and 5 the parent's number; document 02, Job 4: "Bytes 6 and 7 become a
+-- client number"
 unfoldable pub decode : List ℕ → ℕ → Rec
-decode s i = record { kind = byte_of s i 0; label = byte_of s i 1; name = byte_of s i 2; parent = word (byte_of s i 4) (byte_of s i 5) }
+decode s i = record {
+  kind = byte_of s i 0;
+  label = byte_of s i 1;
+  name = byte_of s i 2;
+  parent = word (byte_of s i 4) (byte_of s i 5);
+  client = word (byte_of s i 6) (byte_of s i 7);
+}
 
 -- the records of an itinerary, in the order of their numbers
 unfoldable pub records : List ℕ → List Rec
 records s = tabulate 1 (count s) (decode s)
 
--- the bytes of records; bytes 3, 6 and 7 are zero
+-- the bytes of records; byte 3 is zero
 unfoldable pub encode : List Rec → List ℕ
 encode [] = []
-encode (r ∷ rs) = r.kind ∷ r.label ∷ r.name ∷ 0 ∷ r.parent % 256 ∷ r.parent / 256 ∷ 0 ∷ 0 ∷ encode rs
+encode (r ∷ rs) = r.kind ∷ r.label ∷ r.name ∷ 0 ∷ r.parent % 256 ∷ r.parent / 256 ∷ r.client % 256 ∷ r.client / 256 ∷ encode rs
 
 -- 01's "gone": "A gone record is eight zero bytes."
 abbrev pub gone : Rec
-gone = record { kind = 0; label = 0; name = 0; parent = 0 }
+gone = record { kind = 0; label = 0; name = 0; parent = 0; client = 0 }
 
 -- record i of an itinerary; gone for the environment, number 0, and over the count
 unfoldable pub at : List Rec → ℕ → Rec

@@ -1,17 +1,19 @@
 -- Document 02: what its Jobs promise of the calls beside their definitions, as propositions. Their proofs are in Laws.
-use Rattle.std.specs.Prelude.{◌*◌, ◌+◌, ◌<◌, ◌≤◌, suc, ℕ, eqb, length, Bool, false, true, List, [], ◌∷◌, ◌≢◌, ◌≡◌, ◌⊎◌}
+use Rattle.std.specs.Prelude.{◌*◌, ◌+◌, ◌<◌, ◌≤◌, suc, ℕ, eqb, length, map, Bool, false, true, List, [], ◌∷◌, ◌≢◌, ◌≡◌, ◌⊎◌}
 use Rattle.std.specs.List.{Contains}
 use Rattle.model.specs.Analysis.{permit_all}
-use Rattle.model.specs.Calls.{climb_answer, exposed_answer, moves_answer, moving, step_answer, verdict_answer}
+use Rattle.model.specs.Calls.{check_answer, climb_answer, exposed_answer, make_after, make_answer, moves_answer, moving, step_answer, verdict_answer}
 use Rattle.model.specs.Climbing.{climb, container}
 use Rattle.model.specs.Finite.{Each, summed, tally}
 use Rattle.model.specs.MoveList.{answering, list_bytes, moves}
-use Rattle.model.specs.Noninterference.{BoundaryAt, UnderBoundary}
+use Rattle.model.specs.Noninterference.{BoundaryAt, Event, OnSheet, UnderBoundary, after}
+use Rattle.model.specs.Observer.{sheet_of}
 use Rattle.model.specs.Records.{at, count, parent_of, records}
 use Rattle.model.specs.Refusals.{done, number, pass, read_off}
 use Rattle.model.specs.Scripts.{Step, steps_in}
 use Rattle.model.specs.Validity.{validity}
 use Rattle.model.specs.declared.Above.{Above}
+use Rattle.model.specs.declared.Rec.{Rec}
 use Rattle.model.specs.declared.Tally.{Tally}
 use Rattle.model.specs.declared.Verdict.{Verdict}
 use Rattle.model.specs.declared.Verdict.TheVariants.{Exposed, Hinted, Sealed}
@@ -81,3 +83,31 @@ TallyOfSteps = (s : List ℕ) → validity s ≡ pass → (x : ℕ) → answerin
 -- the list's bytes are a script, whose steps are the moves
 abbrev pub ListIsScript : Type 0
 ListIsScript = (s : List ℕ) → validity s ≡ pass → steps_in (list_bytes (moves permit_all (records s))) ≡ moves permit_all (records s)
+
+-- Job 4: "kept by every move": a record that stands after a list of events has the client that it had
+abbrev pub ClientsKept : Type 0
+ClientsKept = (s : List ℕ) (es : List Event) (i : ℕ) → validity s ≡ pass →
+    (at (records (after s es)) i).kind ≢ 0 → (at (records (after s es)) i).client ≡ (at (records s) i).client
+
+-- a record without its client
+unfoldable pub unclaimed : Rec → Rec
+unclaimed r = record { kind = r.kind; label = r.label; name = r.name; parent = r.parent; client = 0 }
+
+-- two itineraries that differ in clients only
+abbrev pub ButClients : List ℕ → List ℕ → Type 0
+ButClients x y = map unclaimed (records x) ≡ map unclaimed (records y)
+
+-- Job 4: "Tables don't read it": valid itineraries that differ in clients only get the same answers, and the same table made
+pub record TablesBlind (x y policy table : List ℕ) : Type 0 where
+  pub checks : check_answer x policy table ≡ check_answer y policy table
+  pub verdicts : verdict_answer x policy table ≡ verdict_answer y policy table
+  pub exposures : exposed_answer x policy table ≡ exposed_answer y policy table
+  pub makes : make_answer x policy table ≡ make_answer y policy table
+  pub made : make_after x policy table ≡ make_after y policy table
+
+abbrev pub ClientsUnread : Type 0
+ClientsUnread = (x y policy table : List ℕ) → validity x ≡ pass → validity y ≡ pass → ButClients x y → TablesBlind x y policy table
+
+-- Job 4: "two equal sheets now agree on clients too", of the records that stand on them
+abbrev pub SheetsAgree : Type 0
+SheetsAgree = (x y table : List ℕ) → sheet_of x table ≡ sheet_of y table → (i : ℕ) → OnSheet table x i → (at (records x) i).client ≡ (at (records y) i).client

@@ -14,7 +14,7 @@ pub data Outcome : Type 0 where
 
 -- the record with another parent
 abbrev pub to : ℕ → Rec → Rec
-to q r = record { kind = r.kind; label = r.label; name = r.name; parent = q }
+to q r = record { kind = r.kind; label = r.label; name = r.name; parent = q; client = r.client }
 
 -- record i where t becomes a's parent
 unfoldable pub placed : ℕ → ℕ → ℕ → Rec → Rec

@@ -15,13 +15,17 @@ size_right s = eqb (length s % 8) 0 && leb (length s) 8192
 unfoldable pub kind_right : Rec → Bool
 kind_right r = leb r.kind 4
 
--- 2: "a spare byte not zero": "byte 3 zero", "bytes 6 and 7 zero"
+-- 2: "a spare byte not zero": "byte 3 zero"
 unfoldable pub spare_right : List ℕ → ℕ → Bool
-spare_right s i = eqb (byte_of s i 3) 0 && (eqb (byte_of s i 6) 0 && eqb (byte_of s i 7) 0)
+spare_right s i = eqb (byte_of s i 3) 0
+
+-- document 02, Job 4: "a client number from 0 to 999", "a number above 999 falls under 2"
+unfoldable pub client_right : Rec → Bool
+client_right r = leb r.client 999
 
 -- where the record is gone, its other fields are 0
 unfoldable pub blank : Bool → Rec → Bool
-blank true r = eqb r.label 0 && (eqb r.name 0 && eqb r.parent 0)
+blank true r = eqb r.label 0 && (eqb r.name 0 && (eqb r.parent 0 && eqb r.client 0))
 blank false r = true
 
 -- 2: "a gone record not all zero"
@@ -51,9 +55,9 @@ name_by false n = eqb n 0
 unfoldable pub name_right : Rec → Bool
 name_right r = name_by (nested r) r.name
 
--- kind, label and name fit together
+-- kind, label and name fit together, and the client is in range
 unfoldable pub shape : Rec → Bool
-shape r = kind_right r && (label_right r && name_right r)
+shape r = kind_right r && (label_right r && (name_right r && client_right r))
 
 -- "A parent is 0 or a record whose kind is not 0." 5: "parent over the record count, or a record of kind 0"
 unfoldable pub parent_right : List ℕ → ℕ → Bool
@@ -64,7 +68,7 @@ parent_right s (suc p) = leb (suc p) (count s) && unequal (byte_of s (suc p) 0) 
 unfoldable pub record_check : List ℕ → ℕ → Check
 record_check s i =
     let r = decode s i in
-    need (kind_right r && (spare_right s i && gone_right r)) 2 i
+    need (kind_right r && (spare_right s i && (client_right r && gone_right r))) 2 i
     ▸ need (label_right r) 3 i
     ▸ need (name_right r) 4 i
     ▸ need (parent_right s r.parent) 5 i

@@ -15,6 +15,7 @@ pub struct Rec {
     pub label: u8,
     pub name: u8,
     pub parent: u16,
+    pub client: u16,
 }
 
 impl Rec {
@@ -109,7 +110,8 @@ impl fmt::Display for Cause {
     fn fmt<W: fmt::Write>(&self, f: &mut fmt::Formatter<W>) -> fmt::Result {
         f.write_str(match self {
             Cause::Length => "itinerary length no multiple of 8, or over 8,192",
-            Cause::Form => "kind over 4, a spare byte not 0, or a gone record not all 0",
+            Cause::Form =>
+                "kind over 4, byte 3 not 0, a client over 999, or a gone record not all 0",
             Cause::Label => "label wrong for its kind",
             Cause::Name => "name over 63",
             Cause::Parent => "parent over the record count, or a record of kind 0",

@@ -23,9 +23,9 @@ use Rattle.model.specs.declared.Screen.{Screen}
 use Rattle.model.specs.declared.Tally.{Tally}
 use Rattle.model.specs.declared.Verdict.{Verdict}
 
--- the interface's version, major * 65,536 + minor * 256 + patch: 2.1.0
+-- the interface's version, major * 65,536 + minor * 256 + patch: 3.0.0
 unfoldable pub version : ℕ
-version = 131328
+version = 196608
 
 -- "number, record", which each result begins with
 unfoldable pub status : ℕ → ℕ → HubStatus

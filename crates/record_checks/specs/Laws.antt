@@ -29,11 +29,10 @@ module _ (s : List ℕ) (p : ℕ) (h : p ≢ 0) where
       let e : p ≡ suc (p - 1) = omega arith in
       lt-leb p (length s / 8) l ∙ sym (ap (parent_right s) e ∙ rw (lt-leb (suc (p - 1)) (length s / 8) (omega arith)) refl)
 
--- the spare bytes of a record, read directly
-pub spare-direct : (s : List ℕ) (i : ℕ) → i ≢ 0 →
-    (eqb (byte s (8 * (i - 1) + 3)) 0 && (eqb (byte s (8 * (i - 1) + 6)) 0 && eqb (byte s (8 * (i - 1) + 7)) 0)) ≡ spare_right s i
+-- the spare byte of a record, read directly
+pub spare-direct : (s : List ℕ) (i : ℕ) → i ≢ 0 → eqb (byte s (8 * (i - 1) + 3)) 0 ≡ spare_right s i
 unfolding spare_right
-spare-direct s i h = rw (byte-of s i 3 h, byte-of s i 6 h, byte-of s i 7 h)
+spare-direct s i h = rw (byte-of s i 3 h)
 
 -- what is answered where the check passes
 pub answered-is : {A : Type 0} (v : Result A Refusal) (k : Check) (x : A) → answer_as v ≡ answer k x → {y : A} → v ≡ Ok y → y ≡ x

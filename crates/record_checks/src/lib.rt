@@ -5,19 +5,27 @@ ghost use Rattle.std.specs.Prelude.{◌≡◌, ◌*◌, ◌≤◌, IfOk, length}
 ghost use Rattle.model.specs.Numbers.{answer_as, check_as};
 ghost use Rattle.model.specs.Records.{decode};
 ghost use Rattle.model.specs.Refusals.{answer, each_of};
-ghost use Rattle.model.specs.Validity.{gone_right, label_in, label_right, name_right, parent_right, record_check, spare_right};
+ghost use Rattle.model.specs.Validity.{client_right, gone_right, label_in, label_right, name_right, parent_right, record_check, spare_right};
 ghost use Rattle.record_checks.specs.Reading.{form_right, in_order};
 
 use model::{Cause, Rec, Refusal};
 
-// Whether the spare bytes of a whole record are zero.
+// Whether the spare byte of a whole record is zero.
 fn spare_right(it: &[u8], i: u16) -> bool
     requires some { 1 ≤ i }
     requires whole { 8 * i ≤ length it.now }
     ensures { result ≡ spare_right it.now i }
 {
     let at = 8 * ((i as usize) - 1);
-    (it[at + 3] == 0) & ((it[at + 6] == 0) & (it[at + 7] == 0))
+    it[at + 3] == 0
+}
+
+// Whether the client's number is one.
+#[tactic(auto, unfolding(model::specs::Validity::client_right))]
+pub fn client_right(r: Rec) -> bool
+    ensures { result ≡ client_right r }
+{
+    r.client <= 999
 }
 
 // Whether a gone record is all zero.
@@ -26,7 +34,7 @@ fn gone_right(r: Rec) -> bool
     ensures { result ≡ gone_right r }
 {
     if r.is_gone() {
-        return (r.label == 0) & ((r.name == 0) & (r.parent == 0));
+        return (r.label == 0) & ((r.name == 0) & ((r.parent == 0) & (r.client == 0)));
     }
     true
 }
@@ -81,7 +89,7 @@ fn form_right(it: &[u8], i: u16, r: Rec) -> bool
     requires whole { 8 * i ≤ length it.now }
     ensures { result ≡ form_right it.now i r }
 {
-    (r.kind <= 4) & (spare_right(it, i) & gone_right(r))
+    (r.kind <= 4) & (spare_right(it, i) & (client_right(r) & gone_right(r)))
 }
 
 // Record i, which is whole, or the first refusal of 2 to 5 that it gives.

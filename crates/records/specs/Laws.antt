@@ -14,9 +14,9 @@ pub parent-direct : (s : List ℕ) (i p : ℕ) → i ≢ 0 → p ≡ word (byte 
 unfolding decode
 parent-direct s i p h e = e ∙ sym (ap₂ word (byte-of s i 4 h) (byte-of s i 5 h))
 
-pub record-direct : (s : List ℕ) (i p : ℕ) → i ≢ 0 → p ≡ (decode s i).parent →
-    record { kind = byte s (8 * (i - 1)); label = byte s (8 * (i - 1) + 1); name = byte s (8 * (i - 1) + 2); parent = p } ≡ decode s i
+pub record-direct : (s : List ℕ) (i p q : ℕ) → i ≢ 0 → p ≡ (decode s i).parent → q ≡ word (byte s (8 * (i - 1) + 6)) (byte s (8 * (i - 1) + 7)) →
+    record { kind = byte s (8 * (i - 1)); label = byte s (8 * (i - 1) + 1); name = byte s (8 * (i - 1) + 2); parent = p; client = q } ≡ decode s i
 unfolding decode
-record-direct s i p h e =
+record-direct s i p q h e f =
     let z : 8 * (i - 1) ≡ 8 * (i - 1) + 0 = omega arith in
-    rec-path _ _ (ap (byte s) z ∙ sym (byte-of s i 0 h)) (sym (byte-of s i 1 h)) (sym (byte-of s i 2 h)) e
+    rec-path _ _ (ap (byte s) z ∙ sym (byte-of s i 0 h)) (sym (byte-of s i 1 h)) (sym (byte-of s i 2 h)) e (f ∙ sym (ap₂ word (byte-of s i 6 h) (byte-of s i 7 h)))

@@ -41,7 +41,7 @@ stores_at s k a b c d e f g h l =
 -- the eight stores of a record
 pub stores : (s : List ℕ) (i : ℕ) (r : Rec) → 1 ≤ i → 8 * i ≤ length s →
     set (set (set (set (set (set (set (set s (8 * (i - 1)) r.kind) (8 * (i - 1) + 1) r.label) (8 * (i - 1) + 2) r.name) (8 * (i - 1) + 3) 0)
-    (8 * (i - 1) + 4) (r.parent % 256)) (8 * (i - 1) + 5) (r.parent / 256)) (8 * (i - 1) + 6) 0) (8 * (i - 1) + 7) 0 ≡ with_record s i r
+    (8 * (i - 1) + 4) (r.parent % 256)) (8 * (i - 1) + 5) (r.parent / 256)) (8 * (i - 1) + 6) (r.client % 256)) (8 * (i - 1) + 7) (r.client / 256) ≡ with_record s i r
 unfolding with_record encode
 stores s i r l h =
     let e : 8 * (i - 1) + 8 ≡ 8 * i = omega arith in
@@ -50,7 +50,7 @@ stores s i r l h =
 encode-append : (a b : List Rec) → encode (a ++ b) ≡ encode a ++ encode b
 unfolding encode
 encode-append [] b = refl
-encode-append (r ∷ a) b = ap (λ l. r.kind ∷ r.label ∷ r.name ∷ 0 ∷ r.parent % 256 ∷ r.parent / 256 ∷ 0 ∷ 0 ∷ l) (encode-append a b)
+encode-append (r ∷ a) b = ap (λ l. r.kind ∷ r.label ∷ r.name ∷ 0 ∷ r.parent % 256 ∷ r.parent / 256 ∷ r.client % 256 ∷ r.client / 256 ∷ l) (encode-append a b)
 
 pub written_none : (its : List Rec) (s : List ℕ) → s ≡ written its 0 s
 unfolding written encode
@@ -74,7 +74,7 @@ module _ (its : List Rec) (s : List ℕ) where
   pub written_read : (i : ℕ) → i ≤ length its → decode (written its i s) (i + 1) ≡ decode s (i + 1)
   unfolding decode byte_of
   written_read i l = let e : i + 1 ≡ suc i = omega arith in
-      rw e (rec-path _ _ (byte_past i 0 l) (byte_past i 1 l) (byte_past i 2 l) (rw (byte_past i 4 l, byte_past i 5 l)))
+      rw e (rec-path _ _ (byte_past i 0 l) (byte_past i 1 l) (byte_past i 2 l) (rw (byte_past i 4 l, byte_past i 5 l)) (rw (byte_past i 6 l, byte_past i 7 l)))
 
   pub written_next : (i : ℕ) (t : List ℕ) (r : Rec) → i < length its → t ≡ written its i s → r ≡ at its (i + 1) → with_record t (i + 1) r ≡ written its (i + 1) s
   unfolding with_record written at

@@ -70,6 +70,7 @@ fn edge_at(it: &[u8], i: u16) -> Rec
         label: byte_of(it, i, 1),
         name: byte_of(it, i, 2),
         parent: word(byte_of(it, i, 4), byte_of(it, i, 5)),
+        client: word(byte_of(it, i, 6), byte_of(it, i, 7)),
     }
 }
 
@@ -96,6 +97,7 @@ pub fn record_in(it: &[u8], i: u16) -> Rec
         label: it[at + 1],
         name: it[at + 2],
         parent: parent_of(it, i),
+        client: word(it[at + 6], it[at + 7]),
     }
 }
 
@@ -121,6 +123,7 @@ pub fn gone() -> Rec
         label: 0,
         name: 0,
         parent: 0,
+        client: 0,
     }
 }
 
@@ -145,6 +148,7 @@ pub fn put_record(it: &mut [u8], i: u16, r: Rec)
     let [low, high] = r.parent.to_le_bytes();
     it[at + 4] = low;
     it[at + 5] = high;
-    it[at + 6] = 0;
-    it[at + 7] = 0;
+    let [low, high] = r.client.to_le_bytes();
+    it[at + 6] = low;
+    it[at + 7] = high;
 }

@@ -5,7 +5,7 @@
 ghost use Rattle.std.specs.Prelude.{◌+◌, ◌≤◌, length, replicate};
 ghost use Rattle.model.specs.Records.{records};
 ghost use Rattle.text_put.specs.Puts.{Put};
-ghost use Rattle.text_form.specs.Lines.{entry};
+ghost use Rattle.text_form.specs.Lines.{client_bytes, entry};
 ghost use Rattle.text_form.specs.Parts.{Whole, fields, numbered, visit_line};
 ghost use Rattle.text_form.specs.Writing.{mark};
 
@@ -32,14 +32,27 @@ fn put_front(text: &mut [u8], at: usize, number: Option<u16>) -> usize
     }
 }
 
-// Puts a line's kind, label and name.
+// Puts a client's number with the space before it, and nothing for 0.
+fn put_client(text: &mut [u8], at: usize, client: u16) -> usize
+    requires { at + length (client_bytes client) ≤ length text.old }
+    ensures { Put text.old at (client_bytes client) text.new result }
+{
+    if client == 0 {
+        return at;
+    }
+    let number = text_put::put_byte(text, at, b' ');
+    text_put::put_number(text, number, client)
+}
+
+// Puts a line's kind, label, name and client.
 fn put_fields(text: &mut [u8], at: usize, line: Line) -> usize
     requires { at + length (fields line) ≤ length text.old }
     ensures { Put text.old at (fields line) text.new result }
 {
     let label = text_put::put(text, at, text_form::line_word(line.kind));
     let name = text_put::put_field(text, label, line.label as u16, b' ');
-    text_put::put_number(text, name, line.name as u16)
+    let client = text_put::put_number(text, name, line.name as u16);
+    put_client(text, client, line.client)
 }
 
 // Puts the mark of a hidden record.
@@ -93,6 +106,7 @@ pub fn put_visit(
         kind: text_form::kind_of_record(r),
         label: r.label,
         name: r.name,
+        client: r.client,
     };
     let shown = listed.then_some(number);
     put_entry(text, at, shown, listed & s.is_gone(), line)

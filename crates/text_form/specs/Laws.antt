@@ -1,5 +1,7 @@
 -- What is proved of the text form: that text to bytes to text is the identity, and what the functions' proofs cite.
 pub mod Nesting
+pub mod Numerals
+pub mod Clients
 pub mod Lines
 pub mod Identity
 pub mod Complete

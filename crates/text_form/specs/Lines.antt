@@ -1,5 +1,5 @@
 -- The text form of an itinerary: one line a record, indented by two spaces for each record above it.
-use Rattle.std.specs.Prelude.{◌*◌, ℕ, eqb, replicate, Bool, false, true, List, [], ◌++◌, ◌∷◌}
+use Rattle.std.specs.Prelude.{◌*◌, suc, zero, ℕ, eqb, replicate, Bool, false, true, List, [], ◌++◌, ◌∷◌}
 use Rattle.std.specs.Prelude.{Option, None, Some}
 use Rattle.model.specs.Listing.{digits_in, field}
 use Rattle.model.specs.declared.Capability.{Capability}
@@ -23,7 +23,7 @@ out_word = 111 ∷ 117 ∷ 116 ∷ 32 ∷ []
 unfoldable pub open_word : List ℕ
 open_word = 111 ∷ 112 ∷ 101 ∷ 110 ∷ 32 ∷ []
 
--- " hidden", after the name of a record that the sheet hides
+-- " hidden", at the end of the line of a record that the sheet hides
 unfoldable pub hidden_word : List ℕ
 hidden_word = 32 ∷ 104 ∷ 105 ∷ 100 ∷ 100 ∷ 101 ∷ 110 ∷ []
 
@@ -59,13 +59,18 @@ acting (Some k) = Some (Acts k)
 unfoldable pub kind_at : ℕ → Option Kind
 kind_at n = elim (eqb n 1) [ true ↦ Some Ambient | false ↦ acting (capability n) ]
 
+-- document 02, Job 4: a client's number after the name, with the space before it; nothing stands for 0
+unfoldable pub client_bytes : ℕ → List ℕ
+client_bytes zero = []
+client_bytes (suc n) = 32 ∷ digits_in 5 (suc n)
+
 -- two spaces for each record above
 unfoldable pub indent : ℕ → List ℕ
 indent d = replicate (2 * d) 32
 
--- a line: the indentation, front, the kind's word, the label, the name, back, and the end of the line
+-- a line: the indentation, front, the kind's word, the label, the name, the client, back, and the end of the line
 unfoldable pub entry : List ℕ → List ℕ → Line → List ℕ
-entry front back l = indent l.depth ++ (front ++ (line_word l.kind ++ field l.label (digits_in 5 l.name ++ (back ++ (10 ∷ [])))))
+entry front back l = indent l.depth ++ (front ++ (line_word l.kind ++ field l.label (digits_in 5 l.name ++ (client_bytes l.client ++ (back ++ (10 ∷ []))))))
 
 -- a line of the text form
 unfoldable pub line_bytes : Line → List ℕ

@@ -5,7 +5,7 @@ use Rattle.records.specs.Written.{written}
 use Rattle.model.specs.Listing.{digits_in, field}
 use Rattle.model.specs.Records.{at, records}
 use Rattle.model.specs.declared.Rec.{Rec}
-use Rattle.text_form.specs.Lines.{entry, line_word}
+use Rattle.text_form.specs.Lines.{client_bytes, entry, line_word}
 use Rattle.text_form.specs.Reading.{Scan, placed}
 use Rattle.text_form.specs.Writing.{TextWritten, fits, line_at, lines_of, mark, over_if, walk}
 use Rattle.text_form.specs.declared.Line.{Line}
@@ -31,9 +31,9 @@ unfoldable pub numbered : Option ℕ → List ℕ
 numbered None = []
 numbered (Some n) = field n []
 
--- a line's kind, label and name
+-- a line's kind, label, name and client
 unfoldable pub fields : Line → List ℕ
-fields l = line_word l.kind ++ field l.label (digits_in 5 l.name)
+fields l = line_word l.kind ++ field l.label (digits_in 5 l.name ++ client_bytes l.client)
 
 -- the line of a record, in a listing or not; hidden where it is gone among those shown
 unfoldable pub visit_line : Bool → List Rec → List Rec → Visit → List ℕ

@@ -1,5 +1,5 @@
 -- Reading the text form: a line, all lines, and the records that they are.
-use Rattle.std.specs.Prelude.{◌*◌, ◌+◌, ◌-◌, ◌/◌, ◌%◌, min, suc, zero, ℕ, eqb, leb, drop, length, replicate, set, get_or, Bool, ◌&&◌, false, true, List, [], ◌∷◌}
+use Rattle.std.specs.Prelude.{◌*◌, ◌+◌, ◌-◌, ◌/◌, ◌%◌, min, suc, zero, ℕ, eqb, leb, drop, length, not, replicate, set, get_or, Bool, ◌&&◌, false, true, List, [], ◌∷◌}
 use Rattle.std.specs.Prelude.{Option, None, Some, Result, Ok, Err}
 use Rattle.model.specs.Records.{byte, encode}
 use Rattle.model.specs.declared.Capability.TheVariants.{In as cap-in, Open as cap-open, Out as cap-out}
@@ -99,17 +99,32 @@ unfoldable pub with_number : Result Decimal Cause → (Decimal → Result LineRe
 with_number (Ok n) next = next n
 with_number (Err c) next = Err c
 
+-- the client, behind the space before it
+unfoldable pub client_told : Result Decimal Cause → Result Decimal Cause
+client_told (Ok n) = demand (not (eqb n.value 0)) cause.ZeroClient (Ok (record { value = n.value; width = suc n.width }))
+client_told (Err c) = Err c
+
+-- the client after the name, and how many bytes it takes: 0 and none where no space stands, so that a 0 that is written is a fault
+unfoldable pub client_read : List ℕ → Result Decimal Cause
+client_read s = elim (eqb (byte s 0) 32) [ true ↦ client_told (number_read cause.NoClient (drop 1 s)) | false ↦ Ok (record { value = 0; width = 0 }) ]
+
 -- the end of line l
 unfoldable pub ended : Line → List ℕ → Result LineRead Cause
 ended l [] = Err cause.NoEnd
 ended l (c ∷ s) = demand (eqb c 10) (cause_at cause.AfterName (c ∷ s)) (Ok (record { line = l; left = length s }))
+
+-- the client, after the depth, kind, label and name
+unfoldable pub served : ℕ → Kind → ℕ → ℕ → List ℕ → Result LineRead Cause
+served d k label name s =
+    with_number (client_read s) (λ n.
+    ended (record { depth = d; kind = Some k; label = label; name = name; client = n.value }) (drop n.width s))
 
 -- the name, after the depth, kind and label
 unfoldable pub named : ℕ → Kind → ℕ → List ℕ → Result LineRead Cause
 named d k label s =
     demand (eqb (byte s 0) 32) (cause_at cause.NoName s)
     (with_number (number_read cause.NoName (drop 1 s)) (λ n. demand (leb n.value 63) cause.WrongName
-    (ended (record { depth = d; kind = Some k; label = label; name = n.value }) (drop n.width (drop 1 s)))))
+    (served d k label n.value (drop n.width (drop 1 s)))))
 
 -- the label, after the depth and kind
 unfoldable pub labelled : ℕ → Kind → List ℕ → Result LineRead Cause
@@ -172,7 +187,7 @@ scan room s = scan_from room 0 s
 
 -- the record of a line, under a parent
 unfoldable pub record_of : Line → ℕ → Rec
-record_of l p = record { kind = kind_byte l.kind; label = l.label; name = l.name; parent = p }
+record_of l p = record { kind = kind_byte l.kind; label = l.label; name = l.name; parent = p; client = l.client }
 
 -- the records of lines numbered from k on; entry d of above is the parent of a line of depth d: the nearest line before
 -- with one step less, 0 for depth 0
@@ -209,9 +224,10 @@ scan_answer x = read_by (length x.lines) x.fault
 unfoldable pub lines_answer : List ℕ → List ℕ → Result ℕ Fault
 lines_answer text it = scan_answer (scan (room_in it) text)
 
--- the length of the longest text of 1,024 records: a chain of ambients whose labels and names have two digits
+-- the length of the longest text of 1,024 records: a chain of ambients whose labels and names have two digits, and whose
+-- clients have three
 abbrev pub longest : ℕ
-longest = 1061888
+longest = 1065984
 
 -- a fault is told as the text's length where that is too long, at its line
 unfoldable pub length_told : Bool → Result ℕ Fault → Result ℕ Fault

@@ -47,7 +47,7 @@ walk its = walk_from its (length its) 0 0
 
 -- the line of a record met at a depth
 unfoldable pub line_at : List Rec → Visit → Line
-line_at its v = let r = at its v.number in record { depth = v.depth; kind = kind_at r.kind; label = r.label; name = r.name }
+line_at its v = let r = at its v.number in record { depth = v.depth; kind = kind_at r.kind; label = r.label; name = r.name; client = r.client }
 
 -- the text form of records
 unfoldable pub text_of : List Rec → List ℕ
@@ -58,7 +58,7 @@ unfoldable pub mark : Bool → List ℕ
 mark true = hidden_word
 mark false = []
 
--- a line of the listing: the record's number before its kind, and whether it is hidden after its name
+-- a line of the listing: the record's number before its kind, and whether it is hidden at its end
 unfoldable pub list_line : List Rec → (ℕ → Bool) → Visit → List ℕ
 list_line its hides v = entry (field v.number []) (mark (hides v.number)) (line_at its v)
 

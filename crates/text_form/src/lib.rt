@@ -29,14 +29,15 @@ impl Kind {
     }
 }
 
-// A line of the text form: how far it is indented, and the record's kind, label and name. A record that is neither an ambient
-// nor a capability has no kind: none such is read, and a valid itinerary shows none.
+// A line of the text form: how far it is indented, and the record's kind, label, name and client. A record that is neither an
+// ambient nor a capability has no kind: none such is read, and a valid itinerary shows none.
 #[derive(Clone, Copy)]
 pub struct Line {
     pub depth: usize,
     pub kind: Option<Kind>,
     pub label: u8,
     pub name: u8,
+    pub client: u16,
 }
 
 // The word of a kind, with the space after it.
@@ -102,7 +103,8 @@ pub struct LineRead {
     pub left: usize,
 }
 
-// The cause of a fault. The first ten are in the order in which a line is looked at.
+// The cause of a fault. The first ten are in the order in which a line is looked at, and the two about a client come after the
+// eighth.
 #[derive(Clone, Copy, PartialEq, Eq)]
 pub enum Cause {
     // More records than 1,024 or than the itinerary's bytes hold.
@@ -121,9 +123,9 @@ pub enum Cause {
     NoName,
     // The name is over 63.
     WrongName,
-    // Something stands after the name.
+    // Something stands after the name, or after the client where there is one.
     AfterName,
-    // The text ends after the name, with no end of the line.
+    // The text ends after the name or the client, with no end of the line.
     NoEnd,
     // The first line is indented.
     FirstIndented,
@@ -139,6 +141,10 @@ pub enum Cause {
     TooManyDigits,
     // The text is longer than any text of 1,024 records.
     TooLong,
+    // The client after the name is 0, for which nothing is written.
+    ZeroClient,
+    // A space and no number stand after the name.
+    NoClient,
 }
 
 impl fmt::Display for Cause {
@@ -153,8 +159,8 @@ impl fmt::Display for Cause {
                 "label wrong for its kind: 1 to 63 on an ambient, 64 to 127 on in, out and open",
             Cause::NoName => "no space and number for a name after the label",
             Cause::WrongName => "name over 63",
-            Cause::AfterName => "something after the name",
-            Cause::NoEnd => "no end of line after the name",
+            Cause::AfterName => "something after the name or the client",
+            Cause::NoEnd => "no end of line after the name or the client",
             Cause::FirstIndented => "the first line is indented",
             Cause::CarriageReturn =>
                 "a carriage return (byte 13): a line ends with a line feed alone",
@@ -163,6 +169,8 @@ impl fmt::Display for Cause {
             Cause::LeadingZero => "a number with a leading zero",
             Cause::TooManyDigits => "a number with more than three digits",
             Cause::TooLong => "the text is longer than any text of 1024 records",
+            Cause::ZeroClient => "client 0, for which nothing is written",
+            Cause::NoClient => "no number for a client after the name and a space",
         })
     }
 }

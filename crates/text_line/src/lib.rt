@@ -1,11 +1,11 @@
-// Reading a line of the text form: indentation, kind, label, name and end, or the cause of its fault.
+// Reading a line of the text form: indentation, kind, label, name, client and end, or the cause of its fault.
 #![tactic(auto)]
 
 ghost use Rattle.std.specs.Prelude.{◌≡◌};
-ghost use Rattle.text_form.specs.Reading.{ended, indent_cause, labelled, line_read, named, unworded, worded};
+ghost use Rattle.text_form.specs.Reading.{client_read, ended, indent_cause, labelled, line_read, named, served, unworded, worded};
 
 use model::Capability;
-use text_form::{Cause, Kind, Line, LineRead};
+use text_form::{Cause, Decimal, Kind, Line, LineRead};
 
 // The end of a line.
 #[tactic(auto, unfolding(text_form::specs::Reading::ended, text_form::specs::Reading::demand))]
@@ -24,7 +24,41 @@ fn ended(line: Line, s: &[u8]) -> Result<LineRead, Cause>
     })
 }
 
-// The name and the end of a line.
+// The client after a name, with the space before it. A 0 that is written is a fault, so that each line has one text.
+#[tactic(auto, unfolding(text_form::specs::Reading::client_read, text_form::specs::Reading::client_told, text_form::specs::Reading::demand))]
+fn client(s: &[u8]) -> Result<Decimal, Cause>
+    ensures { result ≡ client_read s.now }
+{
+    if text_numeral::byte_at(s, 0) != b' ' {
+        return Ok(Decimal { value: 0, width: 0 });
+    }
+    let client = text_numeral::number(Cause::NoClient, &s[1..])?;
+    if client.value == 0 {
+        return Err(Cause::ZeroClient);
+    }
+    Ok(Decimal {
+        width: client.width + 1,
+        ..client
+    })
+}
+
+// The client and the end of a line.
+#[tactic(auto, unfolding(text_form::specs::Reading::served, text_form::specs::Reading::with_number))]
+fn served(depth: usize, kind: Kind, label: u8, name: u8, s: &[u8]) -> Result<LineRead, Cause>
+    ensures { result ≡ served depth kind label name s.now }
+{
+    let client = client(s)?;
+    let line = Line {
+        depth,
+        kind: Some(kind),
+        label,
+        name,
+        client: client.value,
+    };
+    ended(line, &s[client.width..])
+}
+
+// The name and what follows it.
 #[tactic(auto, unfolding(text_form::specs::Reading::named, text_form::specs::Reading::demand, text_form::specs::Reading::with_number))]
 fn named(depth: usize, kind: Kind, label: u8, s: &[u8]) -> Result<LineRead, Cause>
     ensures { result ≡ named depth kind label s.now }
@@ -37,13 +71,7 @@ fn named(depth: usize, kind: Kind, label: u8, s: &[u8]) -> Result<LineRead, Caus
     if 63 < name.value {
         return Err(Cause::WrongName);
     }
-    let line = Line {
-        depth,
-        kind: Some(kind),
-        label,
-        name: name.value as u8,
-    };
-    ended(line, &rest[name.width..])
+    served(depth, kind, label, name.value as u8, &rest[name.width..])
 }
 
 // The label and what follows it.

@@ -47,7 +47,10 @@ wider-4 n h = wider_by 3 n (dec_le n 9) (λ l. wider-3 (n / 10) (omega arith))
 pub digits-next : (n : ℕ) → 9 < n → n < 65536 → digits_in 5 n ≡ digits_in 5 (n / 10) ++ ((48 + n % 10) ∷ [])
 digits-next n l h = digits-high 4 n l ∙ ap (λ x. x ++ ((48 + n % 10) ∷ [])) (wider-4 (n / 10) (omega arith))
 
--- a number below a hundred has at most two
+-- a number below a thousand has at most three, and one below a hundred at most two
+pub digits-three : (n : ℕ) → n ≤ 999 → length (digits_in 5 n) ≤ 3
+digits-three n h = rw (sym (wider-3 n h ∙ wider-4 n (omega arith))) (digits-few 3 n)
+
 pub digits-two : (n : ℕ) → n ≤ 99 → length (digits_in 5 n) ≤ 2
 digits-two n h = go (dec_le n 9)
   where

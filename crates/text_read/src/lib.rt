@@ -22,6 +22,7 @@ fn place(it: &mut [u8], above: &mut [u16], k: u16, line: Line)
         label: line.label,
         name: line.name,
         parent: above[depth],
+        client: line.client,
     };
     records::put_record(it, k + 1, r);
     above[depth + 1] = k + 1;
@@ -81,7 +82,7 @@ fn length_told(len: usize, answer: Result<u16, Fault>) -> Result<u16, Fault>
     ensures { result ≡ length_told (leb len longest) answer }
 {
     match answer {
-        Err(fault) if 1061888 < len => Err(Fault {
+        Err(fault) if 1065984 < len => Err(Fault {
             cause: Cause::TooLong,
             ..fault
         }),

@@ -1,5 +1,6 @@
 //! Bytes that are refused by 1 to 6, each cause by itself.
 
+use super::clients;
 use crate::random::Random;
 use crate::record::{MOST_RECORDS, RECORD_LENGTH};
 
@@ -7,7 +8,7 @@ use crate::record::{MOST_RECORDS, RECORD_LENGTH};
 pub fn damage(random: &mut Random, bytes: &mut Vec<u8>, cause: u8) -> bool {
     match cause {
         1 => spoil_length(random, bytes),
-        2 => spoil_kind_or_spare(random, bytes),
+        2 => spoil_form(random, bytes),
         3 => spoil_label(random, bytes),
         4 => spoil_name(random, bytes),
         5 => spoil_parent(random, bytes),
@@ -32,8 +33,8 @@ fn spoil_length(random: &mut Random, bytes: &mut Vec<u8>) -> bool {
     true
 }
 
-/// Any byte of a gone record; kind or spare byte of another.
-fn spoil_kind_or_spare(random: &mut Random, bytes: &mut [u8]) -> bool {
+/// Any byte of a gone record; kind, spare byte or client of another.
+fn spoil_form(random: &mut Random, bytes: &mut [u8]) -> bool {
     let gone = places(bytes, true);
     if !gone.is_empty() && random.chance(40) {
         let at = random.pick(&gone) + random.between(1, 7);
@@ -45,10 +46,28 @@ fn spoil_kind_or_spare(random: &mut Random, bytes: &mut [u8]) -> bool {
         return false;
     }
     let at = random.below(count) * RECORD_LENGTH;
-    match random.pick(&[0, 3, 6, 7]) {
+    match random.below(4) {
         0 => bytes[at] = random.pick(&[5, 6, 7, 8, 128, 255]),
-        spare => bytes[at + spare] = random.pick(&[1, 2, 128, 255]),
+        1 => bytes[at + 3] = random.pick(&[1, 2, 128, 255]),
+        // Of a gone record any client is too much.
+        _ => put_client(bytes, at, random.pick(&clients::REFUSED)),
     }
+    true
+}
+
+fn put_client(bytes: &mut [u8], at: usize, client: u16) {
+    bytes[at + 6..at + 8].copy_from_slice(&client.to_le_bytes());
+}
+
+/// Refusal 2 by a client alone: one over 999, or any on a gone record, where there is one and it is
+/// asked for. Says whether it could.
+pub fn spoil_client(random: &mut Random, bytes: &mut [u8], on_gone: bool) -> bool {
+    let Some(at) = random.choose(&places(bytes, on_gone)) else { return false };
+    let client = match on_gone && random.chance(60) {
+        true => clients::any(random),
+        false => random.pick(&clients::REFUSED),
+    };
+    put_client(bytes, at, client);
     true
 }
 

@@ -3,7 +3,7 @@
 use crate::record::{Itinerary, Kind, Record};
 
 fn record(kind: Kind, label: u8, name: u8, parent: u16) -> Record {
-    Record { kind, label, name, parent }
+    Record { kind, label, name, parent, client: 0 }
 }
 
 /// Ambients side by side in the environment.
@@ -57,6 +57,29 @@ pub fn environment_suspect() -> Itinerary {
         ],
     }
 }
+
+/// A bench that three clients share, each record with a client but one and one record gone: a packet goes out
+/// of its boundary and into another ambient, where it is opened. What moves, what is entered, left and opened,
+/// and what follows each of the three have clients of their own. `SHARED_STEPS` are the steps, each of them done.
+pub fn shared() -> Itinerary {
+    let client = |client: u16, record: Record| Record { client, ..record };
+    Itinerary {
+        records: vec![
+            client(17, record(Kind::Ambient, 1, 0, 0)),
+            client(999, record(Kind::Ambient, 2, 1, 1)),
+            client(256, record(Kind::Out, 64, 0, 2)),
+            client(1, record(Kind::In, 65, 2, 3)),
+            Record::GONE,
+            client(512, record(Kind::Ambient, 3, 2, 0)),
+            client(255, record(Kind::Open, 66, 1, 6)),
+            client(998, record(Kind::Ambient, 4, 3, 7)),
+            client(257, record(Kind::Ambient, 5, 4, 4)),
+            record(Kind::Ambient, 6, 5, 2),
+        ],
+    }
+}
+
+pub const SHARED_STEPS: [(u16, u16); 3] = [(3, 1), (4, 6), (7, 2)];
 
 /// Runs of records of one kind in the environment, all with one name.
 pub fn runs(runs: &[(Kind, usize)]) -> Itinerary {

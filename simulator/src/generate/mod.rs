@@ -1,5 +1,6 @@
 //! Seeded inputs: good ones, damaged ones, and ones meant to mislead.
 
+pub mod clients;
 pub mod damage;
 pub mod examples;
 pub mod policies;

@@ -1,5 +1,6 @@
 //! Good itineraries: random trees, and chains as deep as they get.
 
+use super::clients;
 use crate::random::Random;
 use crate::record::{Itinerary, Kind, Record, MOST_RECORDS};
 
@@ -19,6 +20,8 @@ pub struct Mix {
     pub labels: usize,
     pub orders: usize,
     pub names: usize,
+    /// Share of records with a client other than 0.
+    pub clients: usize,
 }
 
 impl Mix {
@@ -34,6 +37,7 @@ impl Mix {
             labels: random.between(1, 5),
             orders: random.between(1, 5),
             names: random.between(1, 4),
+            clients: random.pick(&[0, 50, 90, 100]),
         }
     }
 
@@ -72,6 +76,7 @@ impl Mix {
             labels: random.pick(&[3, 8, 63]),
             orders: random.pick(&[3, 8, 64]),
             names: random.pick(&[2, 5, 64]),
+            clients: random.pick(&[0, 50, 90, 100]),
         }
     }
 
@@ -102,6 +107,7 @@ pub fn tree(random: &mut Random, mix: &Mix) -> Itinerary {
     }
     let mut itinerary = Itinerary { records };
     suit(random, mix.suited, &mut itinerary);
+    clients::give(random, mix.clients, &mut itinerary);
     itinerary
 }
 
@@ -152,10 +158,11 @@ fn draw_parent(random: &mut Random, mix: &Mix, earlier: &[Record]) -> u16 {
 fn draw_record(random: &mut Random, mix: &Mix, parent: u16) -> Record {
     let name = random.below(mix.names) as u8;
     if !random.chance(mix.capabilities) {
-        return Record { kind: Kind::Ambient, label: random.between(1, mix.labels) as u8, name, parent };
+        let label = random.between(1, mix.labels) as u8;
+        return Record { kind: Kind::Ambient, label, name, parent, client: 0 };
     }
     let kind = random.pick(&[Kind::In, Kind::Out, Kind::Open]);
-    Record { kind, label: 64 + random.below(mix.orders) as u8, name, parent }
+    Record { kind, label: 64 + random.below(mix.orders) as u8, name, parent, client: 0 }
 }
 
 /// Which records a chain is made of.
@@ -171,7 +178,7 @@ pub enum Links {
     LastActs(Kind),
 }
 
-/// A chain, each record the parent of the next, or of the one before it.
+/// A chain, each record the parent of the next, or of the one before it; all with client 0.
 pub fn chain(count: usize, links: Links, reversed: bool) -> Itinerary {
     let link = |depth: usize| {
         let kind = match links {
@@ -187,7 +194,7 @@ pub fn chain(count: usize, links: Links, reversed: bool) -> Itinerary {
             (_, false) => depth,
             (_, true) => count - depth + 1,
         };
-        Record { kind, label: label as u8, name: name as u8, parent: parent as u16 }
+        Record { kind, label: label as u8, name: name as u8, parent: parent as u16, client: 0 }
     };
     let mut records: Vec<Record> = (0..count).map(link).collect();
     if reversed {

@@ -156,7 +156,7 @@ fn full(writer: &mut Writer, random: &mut Random, size: Size) {
         {
             let mut itinerary = chain(MOST_RECORDS, links, reversed);
             let top = if reversed { MOST_RECORDS - 1 } else { 0 };
-            itinerary.records[top] = Record { kind: Kind::Ambient, label: 63, name: 0, parent: 0 };
+            itinerary.records[top] = Record { kind: Kind::Ambient, label: 63, name: 0, parent: 0, client: 0 };
             for policy in [policies::of(&[], &[63]), policies::of(&[63], &[])] {
                 put(writer, &itinerary, &policy);
                 from_some(writer);

@@ -4,7 +4,7 @@ use super::moves_cases::LONGEST;
 use super::stream::{Buffer, Buffers, Call};
 use crate::answer::Answer;
 use crate::law::Law;
-use crate::record::{Itinerary, Kind, MOST_RECORDS};
+use crate::record::{Itinerary, Kind, LAST_CLIENT, MOST_RECORDS};
 use crate::steps;
 use crate::table::{reached, verdict, Policy, Table, Verdict, BOUNDARY, HIGH};
 use std::collections::BTreeMap;
@@ -17,8 +17,11 @@ pub struct Counts {
 
 impl Counts {
     /// Notes an answer, and what can be told apart among answers of number 0.
-    pub fn note(&mut self, call: Call, x: u16, answer: &Answer, after: &Buffers) {
+    pub fn note(&mut self, call: Call, x: u16, answer: &Answer, before: &Buffers, after: &Buffers) {
         self.add(call, format!("{:2}", answer.number));
+        if call != Call::Row {
+            self.add_clients(call, x, answer, before.get(Buffer::Itinerary));
+        }
         if call == Call::Moves {
             self.add_room(answer.number, after);
         }
@@ -43,6 +46,19 @@ impl Counts {
 
     fn add(&mut self, call: Call, answer: String) {
         *self.by_answer.entry((call, answer)).or_default() += 1;
+    }
+
+    /// Refusal 2 by a client, and calls that are done with clients.
+    fn add_clients(&mut self, call: Call, actor: u16, answer: &Answer, itinerary: &[u8]) {
+        let words = match (answer.number, Itinerary::read(itinerary)) {
+            (2, _) => refused_clients(&itinerary[usize::from(answer.record) * 8 - 8..][..8]),
+            (0, Ok(read)) if call == Call::Step => {
+                [with_clients(&read), moved_clients(&read, actor)].concat()
+            }
+            (0, Ok(read)) => with_clients(&read),
+            _ => Vec::new(),
+        };
+        words.into_iter().for_each(|word| self.add(call, format!("{:2} {word}", answer.number)));
     }
 
     fn add_verdict(&mut self, call: Call, code: u32, label: u32) {
@@ -186,6 +202,70 @@ impl Counts {
     }
 }
 
+/// What is wrong with the client of a record that is refused with 2, if its client is all that 2 is about.
+fn refused_clients(record: &[u8]) -> Vec<&'static str> {
+    let client = u16::from_le_bytes([record[6], record[7]]);
+    if record[0] == 0 {
+        let alone = record[..6].iter().all(|&byte| byte == 0);
+        return if alone { vec!["gone with a client"] } else { Vec::new() };
+    }
+    if record[0] > 4 || record[3] != 0 {
+        return Vec::new();
+    }
+    let labels = if record[0] == 1 { 1..=63 } else { 64..=127 };
+    let met = [
+        ("client over 999", true),
+        ("client 1000", client == 1000),
+        ("client by its high byte alone", client % 256 == 0),
+        ("client before 3 or 4", !labels.contains(&record[1]) || record[2] > 63),
+    ];
+    met.into_iter().filter(|&(_, so)| so).map(|(word, _)| word).collect()
+}
+
+fn with_clients(itinerary: &Itinerary) -> Vec<&'static str> {
+    let clients = || itinerary.records.iter().map(|record| record.client);
+    let met = [
+        ("with clients", clients().any(|client| client > 0)),
+        ("with client 999", clients().any(|client| client == LAST_CLIENT)),
+        ("with a client of two bytes", clients().any(|client| client > 255 && client % 256 > 0)),
+    ];
+    met.into_iter().filter(|&(_, so)| so).map(|(word, _)| word).collect()
+}
+
+/// Clients of what a step that is done moves or enters, leaves or opens, and of what follows the actor.
+fn moved_clients(itinerary: &Itinerary, actor: u16) -> Vec<&'static str> {
+    let Some(c) = itinerary.get(actor) else { return Vec::new() };
+    let client = |number: u16| itinerary.get(number).is_some_and(|record| record.client > 0);
+    let children = itinerary.records.iter().any(|record| record.parent == actor && record.client > 0);
+    let words = match c.kind {
+        Kind::In => ["in, mover's client", "in, children's clients"],
+        Kind::Out => ["out, mover's client", "out, children's clients"],
+        _ => ["open, actor's client", "open, children's clients"],
+    };
+    let first = if c.kind == Kind::Open { c.client > 0 } else { client(c.parent) };
+    words.into_iter().zip([first, children]).filter(|&(_, so)| so).map(|(word, _)| word).collect()
+}
+
+/// What each call that reads an itinerary has to meet: answer and words.
+const CLIENTS: [(u8, &str); 8] = [
+    (0, "with clients"),
+    (0, "with client 999"),
+    (0, "with a client of two bytes"),
+    (2, "client over 999"),
+    (2, "client 1000"),
+    (2, "client by its high byte alone"),
+    (2, "client before 3 or 4"),
+    (2, "gone with a client"),
+];
+const MOVED: [&str; 6] = [
+    "in, mover's client",
+    "in, children's clients",
+    "out, mover's client",
+    "out, children's clients",
+    "open, actor's client",
+    "open, children's clients",
+];
+
 /// What the cases of the climb have to meet.
 const CLIMBS: [&str; 13] = [
     "number 0",
@@ -242,6 +322,10 @@ fn reachable(call: Call) -> Vec<String> {
     };
     let mut all: Vec<String> =
         (0..=6).chain(numbers.iter().copied()).map(|number: u8| format!("{number:2}")).collect();
+    all.extend(CLIENTS.map(|(number, word)| format!("{number:2} {word}")));
+    if call == Call::Step {
+        all.extend(MOVED.map(|word| format!(" 0 {word}")));
+    }
     if matches!(call, Call::Verdict | Call::Screen) {
         all.extend(["exposed", "hinted", "hinted 0", "sealed"].map(|word| format!(" 0 {word}")));
     }

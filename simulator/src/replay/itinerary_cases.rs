@@ -1,9 +1,11 @@
-//! Cases of validate, climb, sheet, step and run, and behind them more of the climb.
+//! Cases of validate, climb, sheet, step and run, and behind them more of the climb and of clients.
 
+use super::client_cases;
 use super::climb_cases;
 use super::stream::{Buffer, Call};
 use super::writer::Writer;
 use super::Size;
+use crate::generate::clients::given;
 use crate::generate::damage::damage;
 use crate::generate::policies;
 use crate::generate::relabel::Relabel;
@@ -42,6 +44,7 @@ pub fn write(writer: &mut Writer, random: &mut Random, size: Size) {
     }
     full(writer, random, size);
     climb_cases::write(writer, random, size);
+    client_cases::write(writer, random, size, &CALLS);
 }
 
 fn itinerary_now(writer: &Writer) -> Itinerary {
@@ -251,7 +254,9 @@ fn full(writer: &mut Writer, random: &mut Random, size: Size) {
     ];
     for reversed in [false, true] {
         for links in chains.into_iter().take(size.large_times(chains.len())) {
-            large(writer, random, &chain(MOST_RECORDS, links, reversed));
+            let chain = chain(MOST_RECORDS, links, reversed);
+            let itinerary = given(random, 70, &chain);
+            large(writer, random, &itinerary);
         }
     }
     for round in 0..size.large_times(14) {
@@ -320,6 +325,7 @@ fn long_scripts(writer: &mut Writer, random: &mut Random) {
             orders: 6,
             names: 3,
             top: 5,
+            clients: 70,
         };
         let itinerary = tree(random, &mix);
         writer.put(Buffer::Itinerary, &itinerary.bytes());

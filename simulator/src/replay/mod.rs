@@ -1,5 +1,6 @@
 //! Replay files: seeded calls with the answers and buffers expected of them.
 
+pub mod client_cases;
 pub mod climb_cases;
 pub mod counts;
 pub mod exposed_cases;

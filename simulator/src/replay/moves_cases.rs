@@ -1,6 +1,7 @@
 //! Cases of the list of moves: which pairs stand on it, how many answer what, how long
 //! the buffer is, and what stays behind the list.
 
+use super::client_cases;
 use super::stream::{Buffer, Call};
 use super::writer::Writer;
 use super::Size;
@@ -45,6 +46,7 @@ pub fn write(writer: &mut Writer, random: &mut Random, size: Size) {
         full(writer, random);
         longest(writer);
     }
+    client_cases::write(writer, random, size, &CALLS);
 }
 
 /// The pairs that the list has to have, none where the itinerary is refused.

@@ -1,5 +1,6 @@
 //! Cases of the screen, which does what the program does with its files.
 
+use super::client_cases;
 use super::itinerary_cases::refused_script;
 use super::stream::{Buffer, Call};
 use super::writer::Writer;
@@ -42,6 +43,7 @@ pub fn write(writer: &mut Writer, random: &mut Random, size: Size) {
         let policy = policies::telling(random, &itinerary);
         good(writer, random, &itinerary, &policy, if round < 3 { MOST_RECORDS } else { 40 });
     }
+    client_cases::write(writer, random, size, &CALLS);
 }
 
 fn example_b(writer: &mut Writer) {

@@ -1,6 +1,7 @@
 //! Pairs of itineraries that an observer cannot tell apart at the start.
 
-use super::{answer, Case};
+use super::{answer, on_sheet, Case};
+use crate::generate::clients;
 use crate::generate::scripts::{any_step, capabilities, done_step, partners};
 use crate::generate::tables::any_bit;
 use crate::generate::trees::{tree, Mix};
@@ -21,6 +22,7 @@ fn draw_mix(random: &mut Random) -> Mix {
         labels: random.between(2, 5),
         orders: random.between(1, 5),
         names: random.between(1, 4),
+        clients: 0,
     }
 }
 
@@ -34,7 +36,7 @@ fn draw_policy(random: &mut Random) -> Policy {
     policy
 }
 
-/// A case that may be supposed, or none if the draw did not work out.
+/// A case that may be supposed, without clients, or none if the draw did not work out.
 pub fn draw(random: &mut Random, law: Law) -> Option<Case> {
     let mix = draw_mix(random);
     let policy = draw_policy(random);
@@ -58,6 +60,21 @@ pub fn draw(random: &mut Random, law: Law) -> Option<Case> {
     }
     case.steps = draw_steps(random, law, &case);
     Some(case)
+}
+
+/// Gives clients: the same in x and y to what is on the sheet, each its own to what is hidden; in some cases none.
+pub fn give_clients(random: &mut Random, case: &mut Case) {
+    let share = random.pick(&[0, 40, 80, 100]);
+    for number in case.x.numbers() {
+        let place = number as usize - 1;
+        let both = clients::draw(random, share);
+        for itinerary in [&mut case.x, &mut case.y] {
+            let shown = on_sheet(itinerary, &case.table, number);
+            if itinerary.records[place].kind != Kind::Gone {
+                itinerary.records[place].client = if shown { both } else { clients::draw(random, share) };
+            }
+        }
+    }
 }
 
 /// Puts boundaries outside and high ambients inside, else few cases are sealed.
@@ -118,16 +135,19 @@ fn draw_hidden(random: &mut Random, mix: &Mix, y: &Itinerary, table: &Table, num
     let suspects: Vec<u8> = (1..=mix.labels as u8).filter(|&label| table.suspect(label)).collect();
     if !hidden(y, table, parent) {
         return match random.choose(&suspects) {
-            Some(label) => Record { kind: Kind::Ambient, label, name, parent },
+            Some(label) => Record { kind: Kind::Ambient, label, name, parent, client: 0 },
             None => Record::GONE,
         };
     }
     match random.chance(mix.capabilities) {
         true => {
             let kind = random.pick(&[Kind::In, Kind::Out, Kind::Open]);
-            Record { kind, label: 64 + random.below(mix.orders) as u8, name, parent }
+            Record { kind, label: 64 + random.below(mix.orders) as u8, name, parent, client: 0 }
         }
-        false => Record { kind: Kind::Ambient, label: random.between(1, mix.labels) as u8, name, parent },
+        false => {
+            let label = random.between(1, mix.labels) as u8;
+            Record { kind: Kind::Ambient, label, name, parent, client: 0 }
+        }
     }
 }
 

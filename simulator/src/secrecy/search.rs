@@ -3,14 +3,16 @@
 use super::{answer, on_sheet, pairs, shrink, Case};
 use crate::law::Law;
 use crate::random::Random;
+use crate::record::{Kind, Record};
 
 /// What a search went through; a search that did nothing would prove nothing.
 #[derive(Clone, Copy, Debug, Default)]
 pub struct Tally {
     pub drawn: usize,
     pub supposed: usize,
-    /// Supposed cases in which x and y differ.
+    /// Supposed cases in which x and y differ, by more than clients, and by clients of hidden records.
     pub different: usize,
+    pub by_clients: usize,
     pub steps: usize,
     /// Steps done by an actor on the sheet, and by one off it in x or y.
     pub shown_done: usize,
@@ -21,14 +23,24 @@ pub struct Tally {
 impl Tally {
     pub fn line(&self) -> String {
         format!(
-            "{} drawn, {} as supposed, {} of them different, {} steps, {} done by shown and {} by hidden actors, {} false",
-            self.drawn, self.supposed, self.different, self.steps, self.shown_done, self.hidden_done, self.false_cases
+            "{} drawn, {} as supposed, {} of them different, {} by clients, {} steps, {} done by shown and {} by hidden actors, {} false",
+            self.drawn,
+            self.supposed,
+            self.different,
+            self.by_clients,
+            self.steps,
+            self.shown_done,
+            self.hidden_done,
+            self.false_cases
         )
     }
 
     fn note(&mut self, law: Law, case: &Case) {
         self.supposed += 1;
-        self.different += usize::from(case.x != case.y);
+        self.different += usize::from(case.x.without_clients() != case.y.without_clients());
+        let differ =
+            |(x, y): (&Record, &Record)| x.kind != Kind::Gone && y.kind != Kind::Gone && x.client != y.client;
+        self.by_clients += usize::from(case.x.records.iter().zip(&case.y.records).any(differ));
         let (mut x, mut y) = (case.x.clone(), case.y.clone());
         for &(actor, partner) in &case.steps {
             let shown = on_sheet(&x, &case.table, actor);
@@ -48,11 +60,14 @@ impl Tally {
 /// Draws that many pairs; gives the smallest counterexample, shrunk, if any.
 pub fn search(law: Law, seed: u64, count: u64) -> (Option<Case>, Tally) {
     let mut random = Random::new(seed);
+    // Clients are drawn by themselves, so that all else is drawn as it would be without them.
+    let mut clients = Random::new(!seed);
     let mut tally = Tally::default();
     let mut best: Option<Case> = None;
     for _ in 0..count {
         tally.drawn += 1;
-        let Some(case) = pairs::draw(&mut random, law) else { continue };
+        let Some(mut case) = pairs::draw(&mut random, law) else { continue };
+        pairs::give_clients(&mut clients, &mut case);
         tally.note(law, &case);
         if case.false_parts(law).is_empty() {
             continue;

@@ -11,10 +11,13 @@ pub const MOST: usize = 200;
 pub fn size(case: &Case) -> [usize; 5] {
     let records = || case.x.records.iter().chain(&case.y.records);
     let standing = records().filter(|record| record.kind != Kind::Gone).count();
-    let fields =
-        records().map(|r| r.kind as usize + r.label as usize + r.name as usize + r.parent as usize).sum();
+    let fields = records().map(|r| [r.kind as u16, r.label.into(), r.name.into(), r.parent, r.client]);
     let classes = case.policy.iter().filter(|&&class| class != 0).count();
-    [case.x.count(), case.steps.len(), standing, classes, fields]
+    [case.x.count(), case.steps.len(), standing, classes, fields.map(total).sum()]
+}
+
+fn total(fields: [u16; 5]) -> usize {
+    fields.into_iter().map(usize::from).sum()
 }
 
 /// Takes any smaller candidate that is still a counterexample, until none is.
@@ -51,7 +54,8 @@ fn is_sound(itinerary: &Itinerary) -> bool {
 }
 
 fn candidates(case: &Case) -> Vec<Case> {
-    let mut all = Vec::new();
+    let (x, y) = (case.x.without_clients(), case.y.without_clients());
+    let mut all = vec![Case { x, y, ..case.clone() }];
     for number in case.x.numbers() {
         all.push(without_record(case, number));
     }
@@ -136,7 +140,7 @@ fn with_gone(case: &Case, number: u16) -> Vec<Case> {
     found
 }
 
-/// Smaller kinds, labels, names and parents, and the other itinerary's record.
+/// Smaller kinds, labels, names, parents and clients, and the other itinerary's record.
 fn with_lower_fields(case: &Case, number: u16) -> Vec<Case> {
     let place = number as usize - 1;
     let (old_x, old_y) = (case.x.records[place], case.y.records[place]);
@@ -160,7 +164,7 @@ fn with_lower_fields(case: &Case, number: u16) -> Vec<Case> {
 /// The record with one field lower by one, or at its lowest.
 fn lower(record: &Record) -> Vec<Record> {
     if record.kind == Kind::Gone {
-        return vec![Record::GONE; 7];
+        return vec![Record::GONE; 9];
     }
     let first = if record.kind == Kind::Ambient { 1 } else { 64 };
     let label = |label: u8| Record { label: label.max(first), ..*record };
@@ -172,5 +176,7 @@ fn lower(record: &Record) -> Vec<Record> {
         Record { name: record.name.saturating_sub(1), ..*record },
         Record { parent: 0, ..*record },
         Record { parent: record.parent.saturating_sub(1), ..*record },
+        Record { client: 0, ..*record },
+        Record { client: record.client.saturating_sub(1), ..*record },
     ]
 }

@@ -21,7 +21,8 @@ pub fn print(stored: &Stored) -> String {
     for (heading, itinerary) in [("x", x), ("y", y)] {
         let _ = writeln!(text, "\n{heading}");
         for r in &itinerary.records {
-            let _ = writeln!(text, "{} {} {} {}", r.kind as u8, r.label, r.name, r.parent);
+            let client = if r.client == 0 { String::new() } else { format!(" {}", r.client) };
+            let _ = writeln!(text, "{} {} {} {}{client}", r.kind as u8, r.label, r.name, r.parent);
         }
     }
     text += "\npolicy\n";
@@ -88,7 +89,8 @@ fn read_line(stored: &mut Stored, heading: &str, line: &str) -> Option<()> {
         "" if words[0] == "part" => stored.part = label(1)?,
         "x" | "y" => {
             let kind = *Kind::ALL.get(number(0)? as usize)?;
-            let record = Record { kind, label: label(1)?, name: label(2)?, parent: number(3)? };
+            let client = if words.len() > 4 { number(4)? } else { 0 };
+            let record = Record { kind, label: label(1)?, name: label(2)?, parent: number(3)?, client };
             if heading == "x" {
                 case.x.records.push(record)
             } else {

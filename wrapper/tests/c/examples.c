@@ -65,24 +65,25 @@ static void write_example(void)
 {
     usual[1] = HUB_BOUNDARY;
     usual[2] = HUB_HIGH;
-    hub_write_record(example + record_at(1), HUB_AMBIENT, 1, 0, 0);
-    hub_write_record(example + record_at(2), HUB_AMBIENT, 2, 1, 1);
-    hub_write_record(example + record_at(3), HUB_OUT, 64, 0, 2);
+    hub_write_record(example + record_at(1), HUB_AMBIENT, 1, 0, 0, 0);
+    hub_write_record(example + record_at(2), HUB_AMBIENT, 2, 1, 1, 0);
+    hub_write_record(example + record_at(3), HUB_OUT, 64, 0, 2, 0);
 }
 
 static void helpers(void)
 {
-    const uint8_t record[HUB_RECORD_LENGTH] = {4, 127, 63, 0, 0x34, 0x12, 0, 0};
+    const uint8_t record[HUB_RECORD_LENGTH] = {4, 127, 63, 0, 0x34, 0x12, 0xe7, 0x03};
     const uint8_t step[HUB_STEP_LENGTH] = {0xff, 0x03, 0x00, 0x04};
     uint8_t bytes[HUB_RECORD_LENGTH];
     HubRecord fields_of;
     HubStep step_of;
     memset(bytes, 0xff, sizeof bytes);
-    hub_write_record(bytes, HUB_OPEN, 127, 63, 0x1234);
+    hub_write_record(bytes, HUB_OPEN, 127, 63, 0x1234, 999);
     expect("a record is written", memcmp(bytes, record, sizeof record) == 0);
     fields_of = hub_read_record(record);
     expect("a record is read", fields_of.kind == HUB_OPEN && fields_of.label == 127);
     expect("its name and parent too", fields_of.name == 63 && fields_of.parent == 0x1234);
+    expect("and its client", fields_of.client == 999);
     memset(bytes, 0xff, sizeof bytes);
     hub_write_step(bytes, 1023, 1024);
     expect("a step is written", memcmp(bytes, step, sizeof step) == 0 && bytes[HUB_STEP_LENGTH] == 0xff);
@@ -201,8 +202,8 @@ static void example_b(void)
     HubExposedResult asked;
     HubScreenResult screened;
     memset(after, 0, sizeof after);
-    hub_write_record(after + record_at(1), HUB_AMBIENT, 1, 0, 0);
-    hub_write_record(after + record_at(2), HUB_AMBIENT, 2, 1, 0);
+    hub_write_record(after + record_at(1), HUB_AMBIENT, 1, 0, 0, 0);
+    hub_write_record(after + record_at(2), HUB_AMBIENT, 2, 1, 0, 0);
     hub_write_step(script, 3, 1);
     hub_write_step(script + HUB_STEP_LENGTH, 3, 1);
     made = hub_make(example, sizeof example, usual, sizeof usual, table, sizeof table);
@@ -241,9 +242,9 @@ static void example_c(void)
     HubExposedResult asked;
     HubMakeResult made;
     memcpy(it, example, two);
-    hub_write_record(it + record_at(3), HUB_OPEN, 64, 1, 1);
-    hub_write_record(it + record_at(4), HUB_AMBIENT, 3, 2, 3);
-    hub_write_record(it + record_at(5), HUB_OUT, 65, 0, 4);
+    hub_write_record(it + record_at(3), HUB_OPEN, 64, 1, 1, 0);
+    hub_write_record(it + record_at(4), HUB_AMBIENT, 3, 2, 3, 0);
+    hub_write_record(it + record_at(5), HUB_OUT, 65, 0, 4, 0);
     made = hub_make(it, sizeof it, usual, sizeof usual, table, sizeof table);
     expect("C has twelve bits", DONE(made) && made.bits == 12);
     judged = hub_verdict(it, sizeof it, usual, sizeof usual, table, sizeof table);
@@ -257,8 +258,8 @@ static void example_e(void)
     uint8_t it[2 * HUB_RECORD_LENGTH], work[sizeof it];
     HubStepResult stepped;
     HubMakeResult made;
-    hub_write_record(it + record_at(1), HUB_AMBIENT, 1, 0, 0);
-    hub_write_record(it + record_at(2), HUB_IN, 64, 0, 1);
+    hub_write_record(it + record_at(1), HUB_AMBIENT, 1, 0, 0, 0);
+    hub_write_record(it + record_at(2), HUB_IN, 64, 0, 1, 0);
     made = hub_make(it, sizeof it, low, sizeof low, table, sizeof table);
     expect("E has four bits", DONE(made) && made.bits == 4);
     memcpy(work, it, sizeof it);
@@ -271,19 +272,19 @@ static void example_g(void)
 {
     uint8_t it[HUB_RECORD_LENGTH];
     HubValidateResult validated;
-    hub_write_record(it, HUB_AMBIENT, 1, 0, 1);
+    hub_write_record(it, HUB_AMBIENT, 1, 0, 1, 0);
     validated = hub_validate(it, sizeof it);
     expect("G: a ring", REFUSED(validated, HUB_REFUSED_CLIMB, 1));
-    hub_write_record(it, HUB_AMBIENT, 1, 0, 2);
+    hub_write_record(it, HUB_AMBIENT, 1, 0, 2, 0);
     validated = hub_validate(it, sizeof it);
     expect("G: a parent over the count", REFUSED(validated, HUB_REFUSED_PARENT, 1));
-    hub_write_record(it, HUB_AMBIENT, 1, 64, 0);
+    hub_write_record(it, HUB_AMBIENT, 1, 64, 0, 0);
     validated = hub_validate(it, sizeof it);
     expect("a name over 63", REFUSED(validated, HUB_REFUSED_NAME, 1));
-    hub_write_record(it, HUB_AMBIENT, 64, 0, 0);
+    hub_write_record(it, HUB_AMBIENT, 64, 0, 0, 0);
     validated = hub_validate(it, sizeof it);
     expect("a label that is no ambient's", REFUSED(validated, HUB_REFUSED_LABEL, 1));
-    hub_write_record(it, HUB_GONE, 1, 0, 0);
+    hub_write_record(it, HUB_GONE, 1, 0, 0, 0);
     validated = hub_validate(it, sizeof it);
     expect("a gone record with a label", REFUSED(validated, HUB_REFUSED_FORM, 1));
     validated = hub_validate(it, 0);
@@ -295,8 +296,8 @@ static void example_h(void)
     uint8_t it[2 * HUB_RECORD_LENGTH];
     const uint8_t gone[sizeof it] = {0};
     HubStepResult stepped;
-    hub_write_record(it + record_at(1), HUB_AMBIENT, 1, 0, 0);
-    hub_write_record(it + record_at(2), HUB_OUT, 64, 0, 0);
+    hub_write_record(it + record_at(1), HUB_AMBIENT, 1, 0, 0, 0);
+    hub_write_record(it + record_at(2), HUB_OUT, 64, 0, 0, 0);
     stepped = hub_step(it, sizeof it, 2, 1);
     expect("H: out of the environment", REFUSED(stepped, HUB_REFUSED_ACTIVE, 0));
     it[record_at(2)] = HUB_OPEN;

@@ -16,14 +16,14 @@ use Rattle.model.proofs.Laws.Finite.{get_d_tabulate, length-tabulate}
 use Rattle.model.proofs.Laws.Forest.{Depth, depth_le, root, under_of}
 use Rattle.model.proofs.Laws.Updates.{at-over, at-root}
 use Rattle.model.proofs.Laws.Views.{depth-reaches, reaches-depth}
-use Rattle.model.proofs.Laws.WellFormed.{Alive, WellFormed, alive-in, parent_in, shape-labelled, shape-make, shape-named}
-use Rattle.model.specs.Validity.{blank, climb_check, form, gone_right, kind_right, label_by, label_right, name_by, name_right, parent_right, record_check, shape, size_right, spare_right, validity}
+use Rattle.model.proofs.Laws.WellFormed.{Alive, WellFormed, alive-in, parent_in, shape-client, shape-labelled, shape-make, shape-named}
+use Rattle.model.specs.Validity.{blank, client_right, climb_check, form, gone_right, kind_right, label_by, label_right, name_by, name_right, parent_right, record_check, shape, size_right, spare_right, validity}
 use Rattle.model.specs.Records.{at, byte, byte_of, count, decode, encode, gone, nested, parent_of, records}
 use Rattle.model.specs.Refusals.{pass, refuse}
 use Rattle.model.specs.declared.Rec.{Rec}
 
-pub rec-path : (r r' : Rec) → r.kind ≡ r'.kind → r.label ≡ r'.label → r.name ≡ r'.name → r.parent ≡ r'.parent → r ≡ r'
-rec-path r r' p q u v = λ i. record { kind = p i; label = q i; name = u i; parent = v i }
+pub rec-path : (r r' : Rec) → r.kind ≡ r'.kind → r.label ≡ r'.label → r.name ≡ r'.name → r.parent ≡ r'.parent → r.client ≡ r'.client → r ≡ r'
+rec-path r r' p q u v w = λ i. record { kind = p i; label = q i; name = u i; parent = v i; client = w i }
 
 pub length-records : (s : List ℕ) → length (records s) ≡ count s
 unfolding records
@@ -48,7 +48,7 @@ at-whole s m (suc i) = go (dec_le (suc i) (count s))
     go (yes l) = at-decode s (suc i) l
     go (no l) =
         let h : length s ≤ 8 * i = omega arith in
-        at-over (records s) (suc i) (omega (arith, length-records s)) ∙ sym (rec-path (decode s (suc i)) gone (past h 0) (past h 1) (past h 2) (rw (past h 4, past h 5)))
+        at-over (records s) (suc i) (omega (arith, length-records s)) ∙ sym (rec-path (decode s (suc i)) gone (past h 0) (past h 1) (past h 2) (rw (past h 4, past h 5)) (rw (past h 6, past h 7)))
 
 -- the bytes of records
 pub length-encode : (its : List Rec) → length (encode its) ≡ 8 * length its
@@ -68,7 +68,9 @@ byte_in r (suc (suc zero)) = r.name
 byte_in r (suc (suc (suc zero))) = 0
 byte_in r (suc (suc (suc (suc zero)))) = r.parent % 256
 byte_in r (suc (suc (suc (suc (suc zero))))) = r.parent / 256
-byte_in r (suc (suc (suc (suc (suc (suc k)))))) = 0
+byte_in r (suc (suc (suc (suc (suc (suc zero)))))) = r.client % 256
+byte_in r (suc (suc (suc (suc (suc (suc (suc zero))))))) = r.client / 256
+byte_in r (suc (suc (suc (suc (suc (suc (suc (suc k)))))))) = 0
 
 pub byte-encode : (its : List Rec) (i k : ℕ) → i < length its → k < 8 → byte (encode its) (8 * i + k) ≡ byte_in (get_or its i gone) k
 unfolding encode byte_in
@@ -91,6 +93,7 @@ unfolding decode byte_of byte_in
 decode-encode its i h =
     rec-path _ _ (byte-encode its i 0 h (omega arith)) (byte-encode its i 1 h (omega arith)) (byte-encode its i 2 h (omega arith))
     (rw (byte-encode its i 4 h (omega arith), byte-encode its i 5 h (omega arith)) (omega arith))
+    (rw (byte-encode its i 6 h (omega arith), byte-encode its i 7 h (omega arith)) (omega arith))
 
 pub records-encode : (its : List Rec) → records (encode its) ≡ its
 unfolding records
@@ -111,11 +114,13 @@ unfolding gone_right blank
 gone-right r h k =
     let w : blank true r ≡ true = rw (eq-eqb _ _ k) at h in
     let v = and_right (eqb r.label 0) _ w in
-    rec-path r gone k (eqb-true _ _ (and_left _ _ w)) (eqb-true _ _ (and_left _ _ v)) (eqb-true _ _ (and_right (eqb r.name 0) _ v))
+    let u = and_right (eqb r.name 0) _ v in
+    rec-path r gone k (eqb-true _ _ (and_left _ _ w)) (eqb-true _ _ (and_left _ _ v)) (eqb-true _ _ (and_left _ _ u)) (eqb-true _ _ (and_right (eqb r.parent 0) _ u))
 
 pub record Sound (s : List ℕ) (i : ℕ) : Type 0 where
   pub kinds : kind_right (decode s i) ≡ true
   pub spares : spare_right s i ≡ true
+  pub clients : client_right (decode s i) ≡ true
   pub gones : gone_right (decode s i) ≡ true
   pub labels : label_right (decode s i) ≡ true
   pub names : name_right (decode s i) ≡ true
@@ -129,10 +134,12 @@ sound-record s i h =
     let a = then-pass _ _ b.0 in
     let e = need-pass _ 2 i a.0 in
     let f = and_right (kind_right (decode s i)) _ e in
+    let g = and_right (spare_right s i) _ f in
     record {
       kinds = and_left _ _ e;
       spares = and_left _ _ f;
-      gones = and_right (spare_right s i) _ f;
+      clients = and_left _ _ g;
+      gones = and_right (client_right (decode s i)) _ g;
       labels = need-pass _ 3 i a.1;
       names = need-pass _ 4 i b.1;
       parents = need-pass _ 5 i c.1;
@@ -142,14 +149,14 @@ pub record-sound : (s : List ℕ) (i : ℕ) → Sound s i → record_check s i �
 unfolding record_check
 record-sound s i w =
     then-make
-    (then-make (then-make (need-make 2 i (and-make w.kinds (and-make w.spares w.gones))) (need-make 3 i w.labels)) (need-make 4 i w.names))
+    (then-make (then-make (need-make 2 i (and-make w.kinds (and-make w.spares (and-make w.clients w.gones)))) (need-make 3 i w.labels)) (need-make 4 i w.names))
     (need-make 5 i w.parents)
 
 good-record : (s : List ℕ) (i : ℕ) → Sound s i → Good s (decode s i)
-good-record s i w = record { gones = gone-right _ w.gones; shaped = shape-make _ w.kinds w.labels w.names; par = w.parents }
+good-record s i w = record { gones = gone-right _ w.gones; shaped = shape-make _ w.kinds w.labels w.names w.clients; par = w.parents }
 
 good-gone : (s : List ℕ) → Good s gone
-unfolding parent_right shape label_right kind_right name_right nested label_by name_by
+unfolding parent_right shape label_right kind_right name_right client_right nested label_by name_by
 good-gone s = record { gones = λ _. refl; shaped = refl; par = refl }
 
 -- what validation says
@@ -233,7 +240,7 @@ valid-wf s h = passed-wf s (valid-passed s h)
 
 pub shape-kind : (r : Rec) → shape r ≡ true → kind_right r ≡ true
 unfolding shape
-shape-kind r h = and_left _ (label_right r && name_right r) h
+shape-kind r h = and_left _ (label_right r && (name_right r && client_right r)) h
 
 -- well-formed records, as bytes, pass the validation
 module _ {its : List Rec} (wf : WellFormed its) where
@@ -257,8 +264,7 @@ module _ {its : List Rec} (wf : WellFormed its) where
   spare : (i : ℕ) → 1 ≤ i → i ≤ length its → spare_right (encode its) i ≡ true
   unfolding spare_right byte_of byte_in
   spare zero l h = absurd (omega arith)
-  spare (suc i) l h =
-      and-make (eq-eqb _ _ (byte-encode its i 3 h (omega arith))) (and-make (eq-eqb _ _ (byte-encode its i 6 h (omega arith))) (eq-eqb _ _ (byte-encode its i 7 h (omega arith))))
+  spare (suc i) l h = eq-eqb _ _ (byte-encode its i 3 h (omega arith))
 
   gone-ok : (r : Rec) → (r.kind ≡ 0 → r ≡ gone) → gone_right r ≡ true
   unfolding gone_right blank
@@ -272,6 +278,7 @@ module _ {its : List Rec} (wf : WellFormed its) where
   sound-at i l h = record {
     kinds = rw (decode-at i l h) (shape-kind _ (wf.shaped i));
     spares = spare i l h;
+    clients = rw (decode-at i l h) (shape-client _ (wf.shaped i));
     gones = rw (decode-at i l h) (gone-ok _ (wf.gones i));
     labels = rw (decode-at i l h) (shape-labelled _ (wf.shaped i));
     names = rw (decode-at i l h) (shape-named _ (wf.shaped i));
@@ -300,12 +307,11 @@ module _ (s : List ℕ) (small : (j : ℕ) → byte s j < 256) (w : Passed s) wh
   back i zero l m = refl
   back i (suc zero) l m = refl
   back i (suc (suc zero)) l m = refl
-  back i (suc (suc (suc zero))) l m = sym (eqb-true _ _ (and_left _ _ (w.each (suc i) (omega arith) l).spares))
+  back i (suc (suc (suc zero))) l m = sym (eqb-true _ _ (w.each (suc i) (omega arith) l).spares)
   back i (suc (suc (suc (suc zero)))) l m = omega (arith, small (8 * i + 4))
   back i (suc (suc (suc (suc (suc zero))))) l m = omega (arith, small (8 * i + 4))
-  back i (suc (suc (suc (suc (suc (suc zero)))))) l m = sym (eqb-true _ _ (and_left _ _ (and_right (eqb (byte_of s (suc i) 3) 0) _ (w.each (suc i) (omega arith) l).spares)))
-  back i (suc (suc (suc (suc (suc (suc (suc zero))))))) l m =
-      sym (eqb-true _ _ (and_right (eqb (byte_of s (suc i) 6) 0) _ (and_right (eqb (byte_of s (suc i) 3) 0) _ (w.each (suc i) (omega arith) l).spares)))
+  back i (suc (suc (suc (suc (suc (suc zero)))))) l m = omega (arith, small (8 * i + 6))
+  back i (suc (suc (suc (suc (suc (suc (suc zero))))))) l m = omega (arith, small (8 * i + 6))
   back i (suc (suc (suc (suc (suc (suc (suc (suc k)))))))) l m = absurd (omega arith)
 
   get-decode : (i : ℕ) → i < count s → get_or (records s) i gone ≡ decode s (suc i)

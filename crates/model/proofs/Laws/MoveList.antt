@@ -22,7 +22,7 @@ use Rattle.model.proofs.Laws.WellFormed.{alive-in, alive-pos}
 use Rattle.model.specs.Calls.{moves_answer, moving}
 use Rattle.model.specs.Requests.{Before, ListAsTally, ListFits, ListIsScript, MovesAreSteps, MovesRise, Rising, TallyAddsUp, TallyOfSteps}
 use Rattle.model.proofs.Laws.Bytes.{length-records, valid-few}
-use Rattle.model.specs.Refusals.{pass, and_then, need, number}
+use Rattle.model.specs.Refusals.{pass, and_then, need}
 use Rattle.model.specs.Validity.{validity}
 use Rattle.model.proofs.Laws.Adequacy.{call-done, done-call}
 use Rattle.model.proofs.Laws.Checks.{answer-value}

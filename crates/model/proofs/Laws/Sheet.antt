@@ -14,7 +14,7 @@ use Rattle.model.proofs.Laws.Holding.{Holds}
 use Rattle.model.proofs.Laws.SubjectReduction.{ruled}
 use Rattle.model.proofs.Laws.Updates.{at-root, at-update-all, dissolve-moved, dissolve-self, dissolve-stays, length-update, place_other, place-self}
 use Rattle.model.proofs.Laws.WellFormed.{Alive, Out, WellFormed, alive-in, alive-pos, itself, moved, out, stays}
-use Rattle.model.specs.Validity.{kind_right, label_by, label_right, name_by, name_right, shape}
+use Rattle.model.specs.Validity.{client_right, kind_right, label_by, label_right, name_by, name_right, shape}
 use Rattle.model.specs.Observer.{on_sheet, sheet}
 use Rattle.model.specs.Records.{Capability, at, cap-in, cap-open, cap-out, gone, nested, parent_of}
 use Rattle.model.specs.Steps.{dissolve, move, place}
@@ -99,7 +99,7 @@ module _ {its : List Rec} (wf : WellFormed its) (S : ℕ → Bool) where
       go false e = g e
 
   pub sheet-wf : WellFormed (sheet its S)
-  unfolding shape nested label_by name_by label_right kind_right name_right
+  unfolding shape nested label_by name_by label_right kind_right name_right client_right
   sheet-wf = record {
     parents = λ i. by-hidden i (λ h n. absurd (n (ap (λ r. r.parent) (sheet-hidden its S i h)))) (λ h n. par i h n);
     gones = λ i. by-hidden i (λ h _. sheet-hidden its S i h) (λ h e. sheet-shown its S i h ∙ wf.gones i (rw (sheet-shown its S i h) at e));

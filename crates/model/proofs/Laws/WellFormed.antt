@@ -1,5 +1,5 @@
 -- Itineraries that validation passes, as records: what taking a record out and giving it another parent keep.
-use Rattle.std.specs.Prelude.{◌<◌, ◌≤◌, suc, ℕ, leb, length, Bool, false, List, ◌≢◌, ◌≡◌}
+use Rattle.std.specs.Prelude.{◌<◌, ◌≤◌, suc, ℕ, leb, length, Bool, false, List, ◌≢◌, ◌≡◌, ◌&&◌}
 use Rattle.std.proofs.Common.{eqb-true, leb-true, true≢false, ◌∙◌, ap, sym, arith}
 use Rattle.std.proofs.Math.Bool.{true}
 use Rattle.std.proofs.Math.Decide.{dec_le, ℕ_discrete}
@@ -8,7 +8,7 @@ use Rattle.model.proofs.Laws.Forest.{Depth, Follows, depth-along, depth_le, foll
 use Rattle.model.proofs.Laws.Updates.{at-over, at-root, dissolve-moved, dissolve-self, dissolve-stays, place_other, place-self}
 use Rattle.model.specs.Records.{at, gone, is_ambient, nested, parent_of}
 use Rattle.model.specs.Steps.{dissolve, place, to}
-use Rattle.model.specs.Validity.{kind_right, label_by, label_in, label_right, name_by, name_right, shape}
+use Rattle.model.specs.Validity.{client_right, kind_right, label_by, label_in, label_right, name_by, name_right, shape}
 use Rattle.model.specs.declared.Rec.{Rec}
 
 pub record WellFormed (its : List Rec) : Type 0 where
@@ -29,15 +29,19 @@ label-in false l h = omega (arith, leb-true l 127 (and_right (leb 64 l) _ h))
 
 pub shape-labelled : (r : Rec) → shape r ≡ true → label_right r ≡ true
 unfolding shape
-shape-labelled r h = and_left _ (name_right r) (and_right (kind_right r) _ h)
+shape-labelled r h = and_left _ (name_right r && client_right r) (and_right (kind_right r) _ h)
 
 pub shape-named : (r : Rec) → shape r ≡ true → name_right r ≡ true
 unfolding shape
-shape-named r h = and_right (label_right r) _ (and_right (kind_right r) _ h)
+shape-named r h = and_left _ (client_right r) (and_right (label_right r) _ (and_right (kind_right r) _ h))
 
-pub shape-make : (r : Rec) → kind_right r ≡ true → label_right r ≡ true → name_right r ≡ true → shape r ≡ true
+pub shape-client : (r : Rec) → shape r ≡ true → client_right r ≡ true
 unfolding shape
-shape-make r k l n = rw (k, l, n)
+shape-client r h = and_right (name_right r) _ (and_right (label_right r) _ (and_right (kind_right r) _ h))
+
+pub shape-make : (r : Rec) → kind_right r ≡ true → label_right r ≡ true → name_right r ≡ true → client_right r ≡ true → shape r ≡ true
+unfolding shape
+shape-make r k l n c = rw (k, l, n, c)
 
 pub shape-label : (r : Rec) → shape r ≡ true → nested r ≡ true → label_in (is_ambient r) r.label ≡ true
 unfolding label_right label_by
@@ -118,20 +122,21 @@ pub record SameBut (r r' : Rec) : Type 0 where
   pub kind : r'.kind ≡ r.kind
   pub label : r'.label ≡ r.label
   pub name : r'.name ≡ r.name
+  pub client : r'.client ≡ r.client
 
 pub same_shape : {r r' : Rec} → SameBut r r' → shape r' ≡ shape r
-unfolding shape label_right kind_right name_right nested is_ambient
-same_shape s = rw (s.kind, s.label, s.name)
+unfolding shape label_right kind_right name_right client_right nested is_ambient
+same_shape s = rw (s.kind, s.label, s.name, s.client)
 
 pub same-nested : {r r' : Rec} → SameBut r r' → nested r' ≡ nested r
 unfolding nested
 same-nested s = rw s.kind
 
 pub same_of : {r r' : Rec} → r' ≡ r → SameBut r r'
-same_of e = record { kind = ap (λ r. r.kind) e; label = ap (λ r. r.label) e; name = ap (λ r. r.name) e }
+same_of e = record { kind = ap (λ r. r.kind) e; label = ap (λ r. r.label) e; name = ap (λ r. r.name) e; client = ap (λ r. r.client) e }
 
 pub same-to : {r r' : Rec} (q : ℕ) → r' ≡ to q r → SameBut r r'
-same-to q e = record { kind = ap (λ r. r.kind) e; label = ap (λ r. r.label) e; name = ap (λ r. r.name) e }
+same-to q e = record { kind = ap (λ r. r.kind) e; label = ap (λ r. r.label) e; name = ap (λ r. r.name) e; client = ap (λ r. r.client) e }
 
 -- what becomes of record i where x is taken out
 pub data Out (its : List Rec) (x i : ℕ) : Type 0 where
@@ -204,7 +209,7 @@ module _ {its : List Rec} (wf : WellFormed its) (x : ℕ) (z : x ≢ 0) where
           depth-along z (λ j h. h) (λ j. j ≢ x) dissolve-closed dissolve-follows w.0 (omega arith) e w.1
 
   dissolve-shaped : (i : ℕ) → shape (at (dissolve x its) i) ≡ true
-  unfolding shape label_right kind_right name_right nested label_by name_by
+  unfolding shape label_right kind_right name_right client_right nested label_by name_by
   dissolve-shaped i = go (ℕ_discrete i x)
     where
       go : Dec (i ≡ x) → shape (at (dissolve x its) i) ≡ true

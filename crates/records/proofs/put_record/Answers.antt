@@ -30,4 +30,6 @@ pub returns : goal.returns
 returns c =
     let low : get_or c.to_le_bytes.result 0 0 ≡ c.args.r.parent % 256 = ap (λ bs. get_or bs 0 0) c.to_le_bytes.ensures ∙ omega arith in
     let high : get_or c.to_le_bytes.result 1 0 ≡ c.args.r.parent / 256 = ap (λ bs. get_or bs 1 0) c.to_le_bytes.ensures ∙ omega arith in
-    rw (low, high) (stores _ _ _ c.requires.some c.requires.whole)
+    let near : get_or c.to_le_bytes-2.result 0 0 ≡ c.args.r.client % 256 = ap (λ bs. get_or bs 0 0) c.to_le_bytes-2.ensures ∙ omega arith in
+    let far : get_or c.to_le_bytes-2.result 1 0 ≡ c.args.r.client / 256 = ap (λ bs. get_or bs 1 0) c.to_le_bytes-2.ensures ∙ omega arith in
+    rw (low, high, near, far) (stores _ _ _ c.requires.some c.requires.whole)

@@ -4,4 +4,4 @@ use Rattle.records.specs.Laws.{record-direct}
 use Rattle.records.proofs.record_in.Goals as goal
 
 pub returns : goal.returns
-returns c = record-direct _ _ _ (λ e. omega (arith, c.requires.some, e)) c.parent_of.ensures
+returns c = record-direct _ _ _ _ (λ e. omega (arith, c.requires.some, e)) c.parent_of.ensures c.word.ensures

@@ -1,25 +1,23 @@
 -- A text that is read without a fault is the text of its lines: reading loses nothing, and writing gives it back.
 use Rattle.std.specs.Prelude.{◌%◌, ◌*◌, ◌+◌, ◌-◌, ◌/◌, ◌<◌, ◌≤◌, suc, zero, ℕ, eqb, leb, drop, length, replicate, Bool, false, true, List, [], ◌++◌, ◌∷◌, ◌≡◌, refl}
-use Rattle.std.proofs.Common.{eqb-true, leb-true, length-drop, drop-cons, drop-drop, true≢false, ◌∙◌, ap, sym, subst, arith}
-use Rattle.std.specs.Prelude.{Option, None, Some, Result, Ok, Err}
+use Rattle.std.proofs.Common.{eqb-true, length-drop, drop-drop, true≢false, ◌∙◌, ap, sym, arith}
+use Rattle.std.specs.Prelude.{None, Some, Result, Ok, Err}
 use Rattle.model.proofs.Laws.Bytes.{records-encode}
-use Rattle.model.proofs.Laws.Booleans.{and_right}
 use Rattle.model.specs.Listing.{digits_in}
 use Rattle.model.specs.Records.{byte, encode, records}
 use Rattle.model.specs.Validity.{label_in}
-use Rattle.text_form.specs.Laws.Lines.{demand-good, digits_2, digits_3, ended-good, line-parts, named-good, number-good, number-some, scan-bad, scan_good, scan-nested, tail_bytes, worded-as, worded-good}
-use Rattle.text_put.specs.Digits.{digits_1}
+use Rattle.text_form.specs.Laws.Lines.{ended-good, line-parts, name_bytes, named-good, number-good, scan-bad, scan_good, scan-nested, served-good, tail_bytes, worded-as, worded-good}
+use Rattle.text_form.specs.Laws.Numerals.{demand-good, first-1, number-some, numeral-exact}
+use Rattle.text_form.specs.Laws.Clients.{client-exact}
 use Rattle.text_form.specs.Laws.Nesting.{walk-placed}
-use Rattle.text_form.specs.Laws.Scanning.{digit-inside, digit_low, numeral-cases}
-use Rattle.text_form.specs.Lines.{ambient_kind, kind_word, line_bytes, line_word, render}
-use Rattle.text_form.specs.Reading.{before, digit, ended, labelled, leading, line_read, named, number_read, numeral, placed, scan, scan_from, spaces, starts, worded}
+use Rattle.text_form.specs.Lines.{ambient_kind, client_bytes, kind_word, line_bytes, line_word, render}
+use Rattle.text_form.specs.Reading.{before, client_read, ended, labelled, leading, line_read, named, number_read, placed, scan, scan_from, served, spaces, starts, worded}
 use Rattle.text_form.specs.Writing.{text_of}
 use Rattle.text_form.specs.declared.Kind.{Kind}
 use Rattle.text_form.specs.declared.Line.{Line}
 use Rattle.text_form.specs.declared.LineRead.{LineRead}
 use Rattle.text_form.specs.declared.Cause.{Cause}
 use Rattle.text_form.specs.declared.Cause.TheVariants as cause
-use Rattle.text_form.specs.declared.Decimal.{Decimal}
 
 -- what is read is what stands there
 spaces-exact : (s : List ℕ) → replicate (spaces s) 32 ++ drop (spaces s) s ≡ s
@@ -41,59 +39,6 @@ starts-exact (c ∷ w) (x ∷ s) e = go (eqb x c) refl (starts-exact w s)
     go true q ih = ap (λ y. c ∷ y) (ih (rw (q, starts) at e)) ∙ ap (λ y. y ∷ s) (sym (eqb-true x c q))
     go false q ih = absurd (true≢false (sym (rw (q, starts) at e)))
 
-digit-high : (c : ℕ) → digit c ≡ true → c ≤ 57
-unfolding digit
-digit-high c e = leb-true c 57 (and_right (leb 48 c) _ e)
-
--- the first bytes of a list
-first-1 : (s : List ℕ) → 0 < length s → byte s 0 ∷ drop 1 s ≡ s
-first-1 s l = sym (drop-cons s 0 0 l)
-
-first-2 : (s : List ℕ) → 1 < length s → byte s 0 ∷ byte s 1 ∷ drop 2 s ≡ s
-first-2 s l = ap (λ x. byte s 0 ∷ x) (sym (drop-cons s 1 0 l)) ∙ first-1 s (omega arith)
-
-first-3 : (s : List ℕ) → 2 < length s → byte s 0 ∷ byte s 1 ∷ byte s 2 ∷ drop 3 s ≡ s
-first-3 s l = ap (λ x. byte s 0 ∷ byte s 1 ∷ x) (sym (drop-cons s 2 0 l)) ∙ first-2 s (omega arith)
-
--- a number's digits and what stands after them, nothing where there is none
-unfoldable Stands : List ℕ → Option Decimal → Type 0
-Stands s None = Unit {0}
-Stands s (Some n) = digits_in 5 n.value ++ drop n.width s ≡ s
-
-numeral-stands : (s : List ℕ) → Stands s (numeral s)
-unfolding numeral Stands
-numeral-stands s =
-    numeral-cases (Stands s) a b c
-    (λ p. tt)
-    (λ p u. rw (digits_1 0 (omega arith)) (ap (λ n. n ∷ drop 1 s) (sym u) ∙ first-1 s (digit-inside s 0 p)))
-    (λ p u q.
-    rw (digits_1 (a - 48) (omega (arith, digit-high a p)))
-    (let e : 48 + (a - 48) ≡ a = omega (arith, digit_low a p) in rw e (first-1 s (digit-inside s 0 p))))
-    (λ p u q r.
-    rw (digits_2 (10 * (a - 48) + (b - 48)) (omega (arith, digit_low a p)) (omega (arith, digit-high a p, digit-high b q)))
-    (let e : 48 + (10 * (a - 48) + (b - 48)) / 10 ≡ a = omega (arith, digit_low a p, digit_low b q, digit-high b q) in
-    let f : 48 + (10 * (a - 48) + (b - 48)) % 10 ≡ b = omega (arith, digit_low b q, digit-high b q) in
-    rw (e, f) (first-2 s (digit-inside s 1 q))))
-    (λ p u q r.
-    rw (digits_3 (100 * (a - 48) + (10 * (b - 48) + (c - 48))) (omega (arith, digit_low a p)) (omega (arith, digit-high a p, digit-high b q, digit-high c r)))
-    (let e : 48 + (100 * (a - 48) + (10 * (b - 48) + (c - 48))) / 10 / 10 ≡ a = omega (arith, digit_low a p, digit_low b q, digit-high b q, digit_low c r, digit-high c r) in
-    let f : 48 + (100 * (a - 48) + (10 * (b - 48) + (c - 48))) / 10 % 10 ≡ b = omega (arith, digit_low b q, digit-high b q, digit_low c r, digit-high c r) in
-    let g : 48 + (100 * (a - 48) + (10 * (b - 48) + (c - 48))) % 10 ≡ c = omega (arith, digit_low c r, digit-high c r) in
-    rw (e, f, g) (first-3 s (digit-inside s 2 r))))
-  where
-    a : ℕ
-    a = byte s 0
-
-    b : ℕ
-    b = byte s 1
-
-    c : ℕ
-    c = byte s 2
-
-numeral-exact : (s : List ℕ) {n : Decimal} → numeral s ≡ Some n → digits_in 5 n.value ++ drop n.width s ≡ s
-unfolding Stands
-numeral-exact s e = subst (λ o. Stands s o) e (numeral-stands s)
-
 -- what is left of a part is left of the whole
 left-same : (n : ℕ) (s : List ℕ) (left : ℕ) → left < length (drop n s) → drop (length (drop n s) - left) (drop n s) ≡ drop (length s - left) s
 left-same n s left l = let e : n + (length (drop n s) - left) ≡ length s - left = omega (arith, length-drop n s) in drop-drop (length (drop n s) - left) n s ∙ ap (λ k. drop k s) e
@@ -109,20 +54,31 @@ ended-exact m (c ∷ s) {l} {left} e =
     let w : suc (length s) - left ≡ 1 = omega arith in
     rw w (ap (λ x. x ∷ s) (sym (eqb-true c 10 g.0)))
 
-named-exact : (d : ℕ) (k : Kind) (label : ℕ) (s : List ℕ) {l : Line} {left : ℕ} → named d k label s ≡ Ok (record { line = l; left = left }) → 32 ∷ (digits_in 5 l.name ++ (10 ∷ drop (length s - left) s)) ≡ s
+served-exact : (d : ℕ) (k : Kind) (label name : ℕ) (s : List ℕ) {l : Line} {left : ℕ} → served d k label name s ≡ Ok (record { line = l; left = left }) → client_bytes l.client ++ (10 ∷ drop (length s - left) s) ≡ s
+unfolding served
+served-exact d k label name s {l} {left} e =
+    let y = number-good (client_read s) _ e in
+    let n = y.0 in
+    let g = ended-good _ _ y.2 in
+    let w : l.client ≡ n.value = sym (ap (λ x. x.client) g.0) in
+    ap (λ x. client_bytes x ++ (10 ∷ drop (length s - left) s)) w
+    ∙ ap (λ x. client_bytes n.value ++ (10 ∷ x)) (sym (left-same n.width s left g.1))
+    ∙ ap (λ x. client_bytes n.value ++ x) (ended-exact _ (drop n.width s) y.2)
+    ∙ client-exact s y.1
+
+named-exact : (d : ℕ) (k : Kind) (label : ℕ) (s : List ℕ) {l : Line} {left : ℕ} → named d k label s ≡ Ok (record { line = l; left = left }) → 32 ∷ name_bytes l (drop (length s - left) s) ≡ s
 unfolding named
 named-exact d k label s {l} {left} e =
     let z = demand-good (eqb (byte s 0) 32) _ _ e in
     let y = number-good (number_read cause.NoName (drop 1 s)) _ z.1 in
     let n = y.0 in
     let c = demand-good (leb n.value 63) cause.WrongName _ y.2 in
-    let g = ended-good _ _ c.1 in
-    let w : l.name ≡ n.value = sym (ap (λ x. x.name) g.0) in
-    let p : left < length (drop 1 s) = omega (arith, g.1, length-drop n.width (drop 1 s)) in
-    let q : drop (length (drop n.width (drop 1 s)) - left) (drop n.width (drop 1 s)) ≡ drop (length s - left) s = left-same n.width (drop 1 s) left g.1 ∙ left-same 1 s left p in
-    ap (λ x. 32 ∷ (digits_in 5 x ++ (10 ∷ drop (length s - left) s))) w
-    ∙ ap (λ x. 32 ∷ (digits_in 5 n.value ++ (10 ∷ x))) (sym q)
-    ∙ ap (λ x. 32 ∷ (digits_in 5 n.value ++ x)) (ended-exact _ (drop n.width (drop 1 s)) c.1)
+    let g = served-good d k label n.value _ c.1 in
+    let p : left < length (drop 1 s) = omega (arith, g.fewer, length-drop n.width (drop 1 s)) in
+    let q : drop (length (drop n.width (drop 1 s)) - left) (drop n.width (drop 1 s)) ≡ drop (length s - left) s = left-same n.width (drop 1 s) left g.fewer ∙ left-same 1 s left p in
+    ap (λ x. 32 ∷ (digits_in 5 x ++ (client_bytes l.client ++ (10 ∷ drop (length s - left) s)))) g.name
+    ∙ ap (λ x. 32 ∷ (digits_in 5 n.value ++ (client_bytes l.client ++ (10 ∷ x)))) (sym q)
+    ∙ ap (λ x. 32 ∷ (digits_in 5 n.value ++ x)) (served-exact d k label n.value (drop n.width (drop 1 s)) c.1)
     ∙ ap (λ x. 32 ∷ x) (numeral-exact (drop 1 s) (number-some cause.NoName (drop 1 s) y.1))
     ∙ ap (λ x. x ∷ drop 1 s) (sym (eqb-true (byte s 0) 32 z.0))
     ∙ first-1 s (omega (arith, p, length-drop 1 s))
@@ -132,7 +88,7 @@ pub record Labelled (d : ℕ) (k : Kind) (s : List ℕ) (l : Line) (left : ℕ) 
   pub depth : l.depth ≡ d
   pub kind : l.kind ≡ Some k
   pub fewer : left < length s
-  pub bytes : digits_in 5 l.label ++ (32 ∷ (digits_in 5 l.name ++ (10 ∷ drop (length s - left) s))) ≡ s
+  pub bytes : digits_in 5 l.label ++ (32 ∷ name_bytes l (drop (length s - left) s)) ≡ s
 
 labelled-exact : (d : ℕ) (k : Kind) (s : List ℕ) {l : Line} {left : ℕ} → labelled d k s ≡ Ok (record { line = l; left = left }) → Labelled d k s l left
 unfolding labelled
@@ -140,14 +96,14 @@ labelled-exact d k s {l} {left} e =
     let z = number-good (number_read cause.NoLabel s) _ e in
     let n = z.0 in
     let b = demand-good (label_in (ambient_kind k) n.value) cause.WrongLabel _ z.2 in
-    let g = named-good d k n.value _ b.1 in
+    let g = (named-good d k n.value _ b.1).2 in
     record {
-      depth = g.0;
-      kind = g.1;
-      fewer = omega (arith, g.4, length-drop n.width s);
+      depth = g.depth;
+      kind = g.kind;
+      fewer = omega (arith, g.fewer, length-drop n.width s);
       bytes =
-          ap (λ x. digits_in 5 x ++ (32 ∷ (digits_in 5 l.name ++ (10 ∷ drop (length s - left) s)))) g.2
-          ∙ ap (λ x. digits_in 5 n.value ++ (32 ∷ (digits_in 5 l.name ++ (10 ∷ x)))) (sym (left-same n.width s left g.4))
+          ap (λ x. digits_in 5 x ++ (32 ∷ name_bytes l (drop (length s - left) s))) g.label
+          ∙ ap (λ x. digits_in 5 n.value ++ (32 ∷ name_bytes l x)) (sym (left-same n.width s left g.fewer))
           ∙ ap (λ x. digits_in 5 n.value ++ x) (named-exact d k n.value (drop n.width s) b.1)
           ∙ numeral-exact s (number-some cause.NoLabel s z.1);
     }
@@ -160,8 +116,8 @@ worded-exact d s {l} {left} e =
     let w = kind_word b.kind in
     let g = labelled-exact d b.kind (drop (length w) s) b.after in (
       g.depth,
-      ap (λ x. line_word x ++ (digits_in 5 l.label ++ (32 ∷ (digits_in 5 l.name ++ (10 ∷ drop (length s - left) s))))) g.kind
-          ∙ ap (λ x. w ++ (digits_in 5 l.label ++ (32 ∷ (digits_in 5 l.name ++ (10 ∷ x))))) (sym (left-same (length w) s left g.fewer))
+      ap (λ x. line_word x ++ (digits_in 5 l.label ++ (32 ∷ name_bytes l (drop (length s - left) s)))) g.kind
+          ∙ ap (λ x. w ++ (digits_in 5 l.label ++ (32 ∷ name_bytes l x))) (sym (left-same (length w) s left g.fewer))
           ∙ ap (λ x. w ++ x) g.bytes
           ∙ starts-exact w s b.word,
     )

@@ -12,8 +12,8 @@ use Rattle.model.proofs.Laws.Bytes.{count-encode, length-records, records-encode
 use Rattle.model.proofs.Laws.Finite.{lowest-some}
 use Rattle.model.proofs.Laws.Forest.{Depth, root, under_of}
 use Rattle.model.proofs.Laws.Updates.{at-over}
-use Rattle.model.proofs.Laws.WellFormed.{WellFormed, named, shape-label, shape-make}
-use Rattle.model.specs.Validity.{kind_right, label_by, label_right, name_by, name_right, shape, validity}
+use Rattle.model.proofs.Laws.WellFormed.{WellFormed, named, shape-client, shape-label, shape-make}
+use Rattle.model.specs.Validity.{client_right, kind_right, label_by, label_right, name_by, name_right, shape, validity}
 use Rattle.model.proofs.Laws.Booleans.{and_left}
 use Rattle.model.specs.Records.{at, count, encode, gone, is_ambient, nested, parent_of, records}
 use Rattle.model.specs.Refusals.{content, pass}
@@ -55,7 +55,7 @@ walk_end its n p d e = rw (e, walk_from)
 
 -- a record that is visited, as a line
 line-right : (its : List Rec) → WellFormed its → (v : Visit) → (at its v.number).kind ≢ 0 → Right (line_at its v)
-unfolding line_at is_ambient kind_right nested
+unfolding line_at is_ambient kind_right nested client_right
 line-right its wf v z =
     let r = at its v.number in
     let k : r.kind ≤ 4 = leb-true _ _ (shape-kind r (wf.shaped v.number)) in
@@ -65,6 +65,7 @@ line-right its wf v z =
       known = x.1;
       label = rw (x.2) (shape-label r (wf.shaped v.number) (rw (le-leb 1 r.kind (omega arith), le-leb r.kind 4 k)));
       name = omega (arith, named wf v.number);
+      client = leb-true _ _ (shape-client _ (wf.shaped v.number));
     }
 
 line-nested : (its : List Rec) (d : ℕ) (v : Visit) (ls : List Line) → v.depth ≤ d → Right (line_at its v) → Nested (suc v.depth) ls → Nested d (line_at its v ∷ ls)
@@ -100,16 +101,16 @@ placed-lower k above (x ∷ ls) h (suc i) l = omega (arith, placed-lower (suc k)
     lower : (e : ℕ) → get_or (set above (suc x.depth) k) e 0 < suc k
     lower e = entry e (ℕ_discrete e (suc x.depth)) (dec_lt (suc x.depth) (length above))
 
--- a record of a line: its kind, label and name fit together
+-- a record of a line: its kind, label and name fit together, and its client is in range
 record-shape : (l : Line) (p : ℕ) → Right l → shape (record_of l p) ≡ true
-unfolding record_of kind_right label_right label_by name_right name_by nested is_ambient
+unfolding record_of kind_right label_right label_by name_right name_by client_right nested is_ambient
 record-shape l p r =
     let k = kind_byte l.kind in
     let q = ap kind_byte r.known in
     let a : leb 1 k ≡ true = le-leb 1 k (omega (arith, q, byte-low r.kind)) in
     let b : leb k 4 ≡ true = le-leb k 4 (omega (arith, q, byte-high r.kind)) in
     let c : eqb k 1 ≡ ambient_kind r.kind = ap (λ x. eqb x 1) q ∙ byte-ambient r.kind in
-    shape-make _ b (rw (a, b, c) r.label) (rw (a, b) (le-leb l.name 63 r.name))
+    shape-make _ b (rw (a, b, c) r.label) (rw (a, b) (le-leb l.name 63 r.name)) (le-leb l.client 999 r.client)
 
 placed-shape : (k d : ℕ) (above : List ℕ) (ls : List Line) → Nested d ls → (i : ℕ) → i < length ls → (shape (get_or (placed_from k above ls) i gone) ≡ true) × ((get_or (placed_from k above ls) i gone).kind ≢ 0)
 unfolding placed_from record_of
@@ -135,8 +136,8 @@ module _ (ls : List Line) (n : Nested 0 ls) where
       go (no l) = outside (λ z. omega arith) (at-over (placed_from 1 none_above ls) (suc i) (omega (arith, length-placed 1 none_above ls)))
 
   gone-shape : shape gone ≡ true
-  unfolding kind_right label_right label_by name_right name_by nested is_ambient
-  gone-shape = shape-make gone refl refl refl
+  unfolding kind_right label_right label_by name_right name_by client_right nested is_ambient
+  gone-shape = shape-make gone refl refl refl refl
 
   shaped-by : (j : ℕ) → Placed j → shape (at (placed ls) j) ≡ true
   shaped-by j (inside z l p s k) = s

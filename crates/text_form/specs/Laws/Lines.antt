@@ -1,19 +1,19 @@
 -- A line that is written is read back, and what a line that is read has.
-use Rattle.std.specs.Prelude.{◌%◌, ◌*◌, ◌+◌, ◌-◌, ◌/◌, ◌<◌, ◌≤◌, suc, zero, ℕ, eqb, leb, drop, length, replicate, Bool, false, true, List, [], ◌++◌, ◌∷◌, ◌≢◌, ◌≡◌, refl}
-use Rattle.std.proofs.Common.{eq-eqb, le-leb, leb-true, ne_eqb, length-append, length-drop, drop_at, append_assoc, ◌∙◌, ap, sym, arith}
+use Rattle.std.specs.Prelude.{◌%◌, ◌*◌, ◌-◌, ◌/◌, ◌<◌, ◌≤◌, suc, zero, ℕ, eqb, leb, drop, length, replicate, Bool, false, true, List, [], ◌++◌, ◌∷◌, ◌≢◌, ◌≡◌, refl}
+use Rattle.std.proofs.Common.{eq-eqb, le-leb, leb-true, length-append, length-drop, drop_at, append_assoc, ◌∙◌, ap, sym, arith}
 use Rattle.std.proofs.lemmas.List.{length-replicate}
-use Rattle.std.proofs.Math.Seq.{drop-append_seam, get_or-append_seam}
-use Rattle.std.specs.Prelude.{Option, None, Some, Result, Ok, Err}
-use Rattle.std.proofs.Math.Decide.{dec_le, ℕ_discrete}
+use Rattle.std.proofs.Math.Seq.{drop-append_seam}
+use Rattle.std.specs.Prelude.{None, Some, Result, Ok, Err}
 use Rattle.model.proofs.Laws.WellFormed.{label-in}
 use Rattle.model.specs.Listing.{digits_in, field}
 use Rattle.model.specs.Records.{byte}
 use Rattle.model.specs.declared.Capability.TheVariants.{In as cap-in, Open as cap-open, Out as cap-out}
 use Rattle.model.specs.Validity.{label_in}
-use Rattle.text_put.specs.Digits.{digits_1, digits-high, digits_low}
 use Rattle.text_form.specs.Laws.Nesting.{Nested, Right, cons, nil}
-use Rattle.text_form.specs.Lines.{ambient_kind, ambient_word, entry, in_word, indent, kind_word, line_bytes, line_word, open_word, out_word, render}
-use Rattle.text_form.specs.Reading.{before, cause_at, demand, digit, digits_cause, ended, kinds, labelled, leading, line_read, mark_bytes, named, number_alone, number_read, numeral, numeral_of, scan_from, spaces, starts, unworded, with_number, worded, worded_by}
+use Rattle.text_form.specs.Laws.Numerals.{demand-good, number-fine, space-no-digit}
+use Rattle.text_form.specs.Laws.Clients.{client-back, client-low, number-then}
+use Rattle.text_form.specs.Lines.{ambient_kind, ambient_word, client_bytes, entry, in_word, indent, kind_word, line_bytes, line_word, open_word, out_word, render}
+use Rattle.text_form.specs.Reading.{before, client_read, cause_at, demand, ended, kinds, labelled, leading, line_read, mark_bytes, named, number_read, scan_from, served, spaces, starts, unworded, with_number, worded, worded_by}
 use Rattle.text_form.specs.declared.Kind.{Kind}
 use Rattle.text_form.specs.declared.Kind.TheVariants.{Acts, Ambient}
 use Rattle.text_form.specs.declared.Line.{Line}
@@ -22,102 +22,32 @@ use Rattle.text_form.specs.declared.Cause.{Cause}
 use Rattle.text_form.specs.declared.Cause.TheVariants as cause
 use Rattle.text_form.specs.declared.Decimal.{Decimal}
 
--- the digits of a number, by how many there are
-pub digits_2 : (n : ℕ) → 9 < n → n ≤ 99 → digits_in 5 n ≡ (48 + n / 10) ∷ (48 + n % 10) ∷ []
-digits_2 n l h = digits-high 4 n l ∙ ap (λ x. x ++ ((48 + n % 10) ∷ [])) (digits_low 3 (n / 10) (omega arith))
-
-pub digits_3 : (n : ℕ) → 99 < n → n ≤ 999 → digits_in 5 n ≡ (48 + n / 10 / 10) ∷ (48 + n / 10 % 10) ∷ (48 + n % 10) ∷ []
-digits_3 n l h =
-    digits-high 4 n (omega arith)
-    ∙ ap (λ x. x ++ ((48 + n % 10) ∷ []))
-    (digits-high 3 (n / 10) (omega arith) ∙ ap (λ x. x ++ ((48 + n / 10 % 10) ∷ [])) (digits_low 2 (n / 10 / 10) (omega arith)))
-
--- the number of bytes that are digits, by how many
-digit-is : (x : ℕ) → x ≤ 9 → digit (48 + x) ≡ true
-unfolding digit
-digit-is x h = rw (le-leb 48 (48 + x) (omega arith), le-leb (48 + x) 57 (omega arith))
-
-pub numeral-0 : (a b c : ℕ) → a ≡ 48 → numeral_of a b c ≡ Some (record { value = 0; width = 1 })
-unfolding numeral_of digit
-numeral-0 a b c e = rw e
-
-module _ (a b c : ℕ) (d : digit a ≡ true) (z : a ≢ 48) where
-  pub numeral-1 : digit b ≡ false → numeral_of a b c ≡ Some (record { value = a - 48; width = 1 })
-  unfolding numeral_of
-  numeral-1 e = rw (d, numeral_of) (rw (ne_eqb a 48 z) (rw e))
-
-  pub numeral-2 : digit b ≡ true → digit c ≡ false → numeral_of a b c ≡ Some (record { value = 10 * (a - 48) + (b - 48); width = 2 })
-  unfolding numeral_of
-  numeral-2 e f = rw (d, numeral_of) (rw (ne_eqb a 48 z) (rw e (rw f)))
-
-  pub numeral-3 : digit b ≡ true → digit c ≡ true → numeral_of a b c ≡ Some (record { value = 100 * (a - 48) + (10 * (b - 48) + (c - 48)); width = 3 })
-  unfolding numeral_of
-  numeral-3 e f = rw (d, numeral_of) (rw (ne_eqb a 48 z) (rw e (rw f)))
-
-numeral-path : {v v' w w' : ℕ} → v ≡ v' → w ≡ w' → ◌≡◌ {A = Option Decimal} (Some (record { value = v; width = w })) (Some (record { value = v'; width = w' }))
-numeral-path p q = rw (p, q)
-
--- a number that is written is read back
-pub numeral-digits : (n : ℕ) → n ≤ 999 → (c : ℕ) (s : List ℕ) → digit c ≡ false → numeral (digits_in 5 n ++ (c ∷ s)) ≡ Some (record { value = n; width = length (digits_in 5 n) })
-unfolding numeral
-numeral-digits n h c s e = go (dec_le n 9) (dec_le n 99)
-  where
-    one : Dec (n ≡ 0) → n ≤ 9 → numeral_of (48 + n) c (byte s 0) ≡ Some (record { value = n; width = 1 })
-    one (yes u) l = numeral-0 _ _ _ (omega arith) ∙ numeral-path (sym u) refl
-    one (no u) l = numeral-1 _ _ _ (digit-is n l) (omega arith) e ∙ numeral-path (omega arith) refl
-
-    go : Dec (n ≤ 9) → Dec (n ≤ 99) → numeral (digits_in 5 n ++ (c ∷ s)) ≡ Some (record { value = n; width = length (digits_in 5 n) })
-    go (yes l) m = rw (digits_1 n l) (one (ℕ_discrete n 0) l)
-    go (no l) (yes m) =
-        rw (digits_2 n (omega arith) m)
-        (numeral-2 (48 + n / 10) (48 + n % 10) c (digit-is (n / 10) (omega arith)) (omega arith) (digit-is (n % 10) (omega arith)) e ∙ numeral-path (omega arith) refl)
-    go (no l) (no m) =
-        rw (digits_3 n (omega arith) h)
-        (numeral-3 (48 + n / 10 / 10) (48 + n / 10 % 10) (48 + n % 10) (digit-is (n / 10 / 10) (omega arith)) (omega arith) (digit-is (n / 10 % 10) (omega arith)) (digit-is (n % 10) (omega arith)) ∙ numeral-path (omega arith) refl)
-
--- the bytes after a number that is written are no digits
-ten-no-digit : digit 10 ≡ false
-unfolding digit
-ten-no-digit = refl
-
-space-no-digit : digit 32 ≡ false
-unfolding digit
-space-no-digit = refl
-
--- nothing is wrong with a number that is written
-number-fine : (missing : Cause) (n c : ℕ) (s : List ℕ) → n ≤ 999 → digit c ≡ false → number_read missing (digits_in 5 n ++ (c ∷ s)) ≡ Ok (record { value = n; width = length (digits_in 5 n) })
-unfolding number_read number_alone
-number-fine missing n c s h e = rw (numeral-digits n h c s e, number_alone) (rw (get_or-append_seam (digits_in 5 n) c s 0) (rw e))
-
--- a number with nothing wrong stands there
-pub number-some : (missing : Cause) (s : List ℕ) {n : Decimal} → number_read missing s ≡ Ok n → numeral s ≡ Some n
-unfolding number_read number_alone
-number-some missing s {n} e = go (numeral s) refl e
-  where
-    alone : (m : Decimal) (b : Bool) → ◌≡◌ {A = Result Decimal Cause} (elim b [ true ↦ Err (digits_cause m.width) | false ↦ Ok m ]) (Ok n) → Some m ≡ Some n
-    alone m true q = let u : ◌≡◌ {A = ℕ} 0 1 = cc in absurd (omega arith)
-    alone m false q = let u : m ≡ n = cc in ap Some u
-
-    go : (o : Option Decimal) → numeral s ≡ o → number_alone missing s o ≡ Ok n → numeral s ≡ Some n
-    go None p q = let u : ◌≡◌ {A = ℕ} 0 1 = cc in absurd (omega arith)
-    go (Some m) p q = p ∙ alone m (digit (byte s m.width)) q
-
 -- a line by its parts
-known-line : (l : Line) (r : Right l) → record { depth = l.depth; kind = Some r.kind; label = l.label; name = l.name } ≡ l
-known-line l r = ap (λ k. record { depth = l.depth; kind = k; label = l.label; name = l.name }) (sym r.known)
+known-line : (l : Line) (r : Right l) → record { depth = l.depth; kind = Some r.kind; label = l.label; name = l.name; client = l.client } ≡ l
+known-line l r = ap (λ k. record { depth = l.depth; kind = k; label = l.label; name = l.name; client = l.client }) (sym r.known)
+
+-- the name of a line and all that follows it
+abbrev pub name_bytes : Line → List ℕ → List ℕ
+name_bytes l s = digits_in 5 l.name ++ (client_bytes l.client ++ (10 ∷ s))
 
 -- the parts of a line that is written are read back
-named_back : (l : Line) (r : Right l) (s : List ℕ) → named l.depth r.kind l.label (32 ∷ (digits_in 5 l.name ++ (10 ∷ s))) ≡ Ok (record { line = l; left = length s })
-unfolding named demand ended with_number
-named_back l r s =
-    rw (number-fine cause.NoName l.name 10 s (omega arith) ten-no-digit, with_number)
-    (rw (le-leb l.name 63 r.name, drop-append_seam (digits_in 5 l.name) (10 ∷ s)) (ap (λ x. Ok (record { line = x; left = length s })) (known-line l r)))
+served-back : (l : Line) (r : Right l) (s : List ℕ) → served l.depth r.kind l.label l.name (client_bytes l.client ++ (10 ∷ s)) ≡ Ok (record { line = l; left = length s })
+unfolding served demand ended with_number
+served-back l r s =
+    rw (client-back l.client s r.client, with_number)
+    (rw (drop-append_seam (client_bytes l.client) (10 ∷ s)) (ap (λ x. Ok (record { line = x; left = length s })) (known-line l r)))
 
-labelled-back : (l : Line) (r : Right l) (s : List ℕ) → labelled l.depth r.kind (digits_in 5 l.label ++ (32 ∷ (digits_in 5 l.name ++ (10 ∷ s)))) ≡ Ok (record { line = l; left = length s })
+named_back : (l : Line) (r : Right l) (s : List ℕ) → named l.depth r.kind l.label (32 ∷ name_bytes l s) ≡ Ok (record { line = l; left = length s })
+unfolding named demand with_number
+named_back l r s =
+    rw (number-then cause.NoName l.name l.client s (omega (arith, r.name)), with_number)
+    (rw (le-leb l.name 63 r.name, drop-append_seam (digits_in 5 l.name) (client_bytes l.client ++ (10 ∷ s))) (served-back l r s))
+
+labelled-back : (l : Line) (r : Right l) (s : List ℕ) → labelled l.depth r.kind (digits_in 5 l.label ++ (32 ∷ name_bytes l s)) ≡ Ok (record { line = l; left = length s })
 unfolding labelled demand with_number
 labelled-back l r s =
     rw (number-fine cause.NoLabel l.label 32 _ (omega (arith, label-in _ _ r.label)) space-no-digit, with_number)
-    (rw (r.label, drop-append_seam (digits_in 5 l.label) (32 ∷ (digits_in 5 l.name ++ (10 ∷ s))))
+    (rw (r.label, drop-append_seam (digits_in 5 l.label) (32 ∷ name_bytes l s))
     (named_back l r s))
 
 worded-back : (d : ℕ) (k : Kind) (s : List ℕ) → worded d (kind_word k ++ s) ≡ labelled d k s
@@ -141,7 +71,7 @@ spaces-after (suc n) s e = ap suc (spaces-after n s e)
 
 -- what follows the indentation of a line
 unfoldable pub tail_bytes : Line → List ℕ → List ℕ
-tail_bytes l s = line_word l.kind ++ (digits_in 5 l.label ++ (32 ∷ (digits_in 5 l.name ++ (10 ∷ s))))
+tail_bytes l s = line_word l.kind ++ (digits_in 5 l.label ++ (32 ∷ name_bytes l s))
 
 pub line-parts : (l : Line) (s : List ℕ) → line_bytes l ++ s ≡ replicate (2 * l.depth) 32 ++ tail_bytes l s
 unfolding line_bytes entry indent field tail_bytes
@@ -187,11 +117,6 @@ pub record Got (d : ℕ) (s : List ℕ) (l : Line) (left : ℕ) : Type 0 where
   pub right : Right l
   pub fewer : left < length s
 
-pub demand-good : {A : Type 0} (b : Bool) (given : Cause) (next : Result A Cause) {x : A} → demand b given next ≡ Ok x → (b ≡ true) × (next ≡ Ok x)
-unfolding demand
-demand-good true given next e = (refl, e)
-demand-good false given next e = let u : ◌≡◌ {A = ℕ} 0 1 = cc in absurd (omega arith)
-
 -- a number with which it goes on
 pub number-good : (r : Result Decimal Cause) (next : Decimal → Result LineRead Cause) {x : LineRead} → with_number r next ≡ Ok x → (n : Decimal) × (r ≡ Ok n) × (next n ≡ Ok x)
 unfolding with_number
@@ -206,16 +131,39 @@ ended-good m (c ∷ s) {l} {left} e =
     let u : ◌≡◌ {A = LineRead} (record { line = m; left = length s }) (record { line = l; left = left }) = cc in
     (ap (λ x. x.line) u, omega (arith, ap (λ x. x.left) u))
 
-pub named-good : (d : ℕ) (k : Kind) (label : ℕ) (s : List ℕ) {l : Line} {left : ℕ} → named d k label s ≡ Ok (record { line = l; left = left }) → (l.depth ≡ d) × (l.kind ≡ Some k) × (l.label ≡ label) × (l.name ≤ 63) × (left < length s)
+-- what is read from a line's name on, and before it
+pub record Served (d : ℕ) (k : Kind) (a b : ℕ) (s : List ℕ) (l : Line) (left : ℕ) : Type 0 where
+  pub depth : l.depth ≡ d
+  pub kind : l.kind ≡ Some k
+  pub label : l.label ≡ a
+  pub name : l.name ≡ b
+  pub client : l.client ≤ 999
+  pub fewer : left < length s
+
+pub served-good : (d : ℕ) (k : Kind) (label name : ℕ) (s : List ℕ) {l : Line} {left : ℕ} → served d k label name s ≡ Ok (record { line = l; left = left }) → Served d k label name s l left
+unfolding served
+served-good d k label name s {l} {left} e =
+    let a = number-good (client_read s) _ e in
+    let n = a.0 in
+    let g = ended-good _ _ a.2 in
+    record {
+      depth = sym (ap (λ x. x.depth) g.0);
+      kind = sym (ap (λ x. x.kind) g.0);
+      label = sym (ap (λ x. x.label) g.0);
+      name = sym (ap (λ x. x.name) g.0);
+      client = omega (arith, client-low s a.1, ap (λ x. x.client) g.0);
+      fewer = omega (arith, g.1, length-drop n.width s);
+    }
+
+pub named-good : (d : ℕ) (k : Kind) (label : ℕ) (s : List ℕ) {l : Line} {left : ℕ} → named d k label s ≡ Ok (record { line = l; left = left }) → (name : ℕ) × (name ≤ 63) × Served d k label name s l left
 unfolding named
 named-good d k label s {l} {left} e =
     let a = (demand-good (eqb (byte s 0) 32) _ _ e).1 in
     let b = number-good (number_read cause.NoName (drop 1 s)) _ a in
     let n = b.0 in
     let c = demand-good (leb n.value 63) cause.WrongName _ b.2 in
-    let g = ended-good _ _ c.1 in
-    let w : l.name ≡ n.value = sym (ap (λ x. x.name) g.0) in
-    (sym (ap (λ x. x.depth) g.0), sym (ap (λ x. x.kind) g.0), sym (ap (λ x. x.label) g.0), omega (arith, leb-true n.value 63 c.0), omega (arith, g.1, length-drop n.width (drop 1 s), length-drop 1 s))
+    let g = served-good d k label n.value _ c.1 in
+    (n.value, leb-true n.value 63 c.0, record { depth = g.depth; kind = g.kind; label = g.label; name = g.name; client = g.client; fewer = omega (arith, g.fewer, length-drop n.width (drop 1 s), length-drop 1 s) })
 
 pub labelled-good : (d : ℕ) (k : Kind) (s : List ℕ) {l : Line} {left : ℕ} → labelled d k s ≡ Ok (record { line = l; left = left }) → Got d s l left
 unfolding labelled
@@ -223,11 +171,12 @@ labelled-good d k s {l} {left} e =
     let a = number-good (number_read cause.NoLabel s) _ e in
     let n = a.0 in
     let b = demand-good (label_in (ambient_kind k) n.value) cause.WrongLabel _ a.2 in
-    let g = named-good d k n.value _ b.1 in
+    let h = named-good d k n.value _ b.1 in
+    let g = h.2 in
     record {
-      deep = omega (arith, g.0);
-      right = record { kind = k; known = g.1; label = rw (g.2) b.0; name = g.3 };
-      fewer = omega (arith, g.4, length-drop n.width s);
+      deep = omega (arith, g.depth);
+      right = record { kind = k; known = g.kind; label = rw (g.label) b.0; name = omega (arith, g.name, h.1); client = g.client };
+      fewer = omega (arith, g.fewer, length-drop n.width s);
     }
 
 got-past : (n : ℕ) (s : List ℕ) {d : ℕ} {l : Line} {left : ℕ} → Got d (drop n s) l left → Got d s l left

@@ -65,12 +65,13 @@ kind-known (suc (suc (suc zero))) z h = (Acts cap-out, refl, refl)
 kind-known (suc (suc (suc (suc zero)))) z h = (Acts cap-open, refl, refl)
 kind-known (suc (suc (suc (suc (suc n))))) z h = absurd (omega arith)
 
--- a line whose kind, label and name fit together
+-- a line whose kind, label and name fit together, and whose client is in range
 pub record Right (l : Line) : Type 0 where
   pub kind : Kind
   pub known : l.kind ≡ Some kind
   pub label : label_in (ambient_kind kind) l.label ≡ true
   pub name : l.name ≤ 63
+  pub client : l.client ≤ 999
 
 -- each line is indented by at most one step more than the one before, and the first by at most d
 pub data Nested : ℕ → List Line → Type 0 where

@@ -1,5 +1,5 @@
 -- Room: a valid itinerary has at most 1,024 lines, each indented by at most one step more than the one before and with at
--- most 14 bytes after the indentation; the listing has at most 13 more in a line. So a program that lends enough always has
+-- most 18 bytes after the indentation; the listing has at most 13 more in a line. So a program that lends enough always has
 -- its text, which is empty where it is refused.
 use Rattle.std.specs.Prelude.{◌*◌, ◌+◌, ◌≤◌, suc, zero, ℕ, leb, Bool, false, true, List, [], ◌∷◌, map}
 use borrow.Author.Tests.{le-leb, leb-true}
@@ -20,6 +20,7 @@ use Rattle.model.specs.declared.Refusal.{Refusal}
 use Rattle.text_put.specs.Puts.{over}
 use Rattle.text_put.specs.Digits.{digits-few, digits-two}
 use Rattle.text_put.specs.Laws.{field-few}
+use Rattle.text_form.specs.Laws.Clients.{client-short}
 use Rattle.text_form.specs.Laws.Identity.{written-nested}
 use Rattle.text_form.specs.Laws.Lines.{scan-nested}
 use Rattle.text_form.specs.Laws.Nesting.{Nested, Right, cons, nil}
@@ -40,7 +41,7 @@ use Rattle.text_form.specs.declared.Visit.{Visit}
 -- the room of n lines, the first indented by at most d steps
 budget : ℕ → ℕ → ℕ
 budget zero d = 0
-budget (suc n) d = 2 * d + 14 + budget n (suc d)
+budget (suc n) d = 2 * d + 18 + budget n (suc d)
 
 budget-more : (n m d e : ℕ) → n ≤ m → d ≤ e → budget n d ≤ budget m e
 unfolding budget
@@ -56,10 +57,10 @@ word-label (Acts cap-in) l h = omega (arith, digits-few 5 l)
 word-label (Acts cap-out) l h = omega (arith, digits-few 5 l)
 word-label (Acts cap-open) l h = omega (arith, digits-few 5 l)
 
-line-short : (l : Line) → Right l → length (line_bytes l) ≤ 2 * l.depth + 14
+line-short : (l : Line) → Right l → length (line_bytes l) ≤ 2 * l.depth + 18
 unfolding line_bytes line_word
 line-short l r =
-    omega (arith, entry_length [] [] l, fields-length l, ap (λ x. length (line_word x)) r.known, word-label r.kind l.label r.label, digits-two l.name (omega (arith, r.name)))
+    omega (arith, entry_length [] [] l, fields-length l, ap (λ x. length (line_word x)) r.known, word-label r.kind l.label r.label, digits-two l.name (omega (arith, r.name)), client-short l.client r.client)
 
 render-short : {d : ℕ} {ls : List Line} → Nested d ls → length (render ls) ≤ budget (length ls) d
 unfolding render budget
@@ -85,11 +86,11 @@ list-more its hides (v ∷ vs) =
     omega (arith, list-more its hides vs, length-append (entry front back l) (lines_of (list_line its hides) vs), length-append (entry [] [] l) (render (map (line_at its) vs)), entry_length front back l, entry_length [] [] l, field-few v.number, mark-short (hides v.number))
 
 module _ (s : List ℕ) (v : validity s ≡ pass) where
-  pub text-short : length (text_of (records s)) ≤ 1061888
+  pub text-short : length (text_of (records s)) ≤ 1065984
   unfolding text_of
   text-short = let w = written-nested s v in lines-short w.0 w.1
 
-  pub list-short : (S : ℕ → Bool) → length (list_of (records s) S) ≤ 1075200
+  pub list-short : (S : ℕ → Bool) → length (list_of (records s) S) ≤ 1079296
   unfolding list_of text_of
   list-short S =
       omega (arith, list-more (records s) (hidden (records s) S) (walk (records s)), text-short, (written-nested s v).1, length-map (walk (records s)) (line_at (records s)))
@@ -136,9 +137,9 @@ unfolding text_or
 or_short other pass w n l f = f refl
 or_short other (refuse m i) w n l f = l
 
-pub text-fits : (readable : Bool) (s : List ℕ) {n : ℕ} → n ≡ length (shown_text readable s) → n ≤ 1061888
+pub text-fits : (readable : Bool) (s : List ℕ) {n : ℕ} → n ≡ length (shown_text readable s) → n ≤ 1065984
 unfolding shown_text no_text
-text-fits true s e = omega (arith, or_short no_text (validity s) (text_of (records s)) 1061888 (omega arith) (text-short s))
+text-fits true s e = omega (arith, or_short no_text (validity s) (text_of (records s)) 1065984 (omega arith) (text-short s))
 text-fits false s e = omega (arith, e)
 
 -- what hubshow fills, by whether its file could be read

@@ -1,20 +1,17 @@
 -- Reading, a byte at a time: what each test of the code decides.
-use Prim.Native.Nat.{◌*◌, ◌+◌, ◌-◌, ◌<◌, ◌≤◌, suc, ℕ}
-use borrow.Author.Tests.{eq-eqb, leb-true, ne_eqb}
-use Rattle.std.specs.Prelude.{cond, eqb, ltb, nat_eq, not, ◌&&◌, unwrap_or, drop, get_or, length, take, Bool, false, true, List, [], ◌∷◌, ◌≢◌, ◌≡◌, refl}
-use Rattle.std.specs.Prelude.{Option, None, Some, Ok, Err}
-use Rattle.std.proofs.Math.ListN.{get_or-eq_default}
+use Prim.Native.Nat.{◌+◌, ◌-◌, ◌<◌, ◌≤◌, suc, ℕ}
+use borrow.Author.Tests.{eq-eqb, ne_eqb}
+use Rattle.std.specs.Prelude.{cond, eqb, ltb, nat_eq, not, ◌&&◌, unwrap_or, drop, get_or, length, take, Bool, false, true, List, [], ◌∷◌, ◌≡◌, refl}
+use Rattle.std.specs.Prelude.{Option, None, Some, Err}
 use Rattle.std.proofs.Common.{drop-cons, drop_of_length-le, length-drop, take_all, ◌∙◌, ap, sym}
 use Rattle.std.specs.List.{position_or_len, starts_with}
 use Rattle.std.proofs.lemmas.Bool.{ltb-false}
 use lib.Pointwise.{pointwise}
-use Rattle.std.proofs.Math.Decide.{dec_lt, ℕ_discrete}
+use Rattle.std.proofs.Math.Decide.{ℕ_discrete}
 use native.Mathlib.Omega.{arith}
-use Rattle.model.proofs.Laws.Booleans.{and_left}
 use Rattle.model.specs.Records.{byte}
-use Rattle.text_form.specs.Laws.Lines.{number-some, numeral-0, numeral-1, numeral-2, numeral-3}
 use Rattle.text_form.specs.Lines.{kind_word}
-use Rattle.text_form.specs.Reading.{digit, digits_cause, labelled, leading, number_alone, number_read, numeral, numeral_of, starts, unworded, worded_by}
+use Rattle.text_form.specs.Reading.{digit, digits_cause, labelled, leading, number_alone, number_read, numeral, starts, unworded, worded_by}
 use Rattle.text_form.specs.declared.Cause.{Cause}
 use Rattle.text_form.specs.declared.Decimal.{Decimal}
 use Rattle.text_form.specs.declared.Kind.{Kind}
@@ -78,59 +75,6 @@ starts-prefix (c ∷ w) (x ∷ s) = go (eqb x c) (starts-prefix w s)
     go true ih = ih
     go false ih = refl
 
--- a byte that is not 0 is there
-pub byte_inside : (s : List ℕ) (j : ℕ) → byte s j ≢ 0 → j < length s
-byte_inside s j e = go (dec_lt j (length s))
-  where
-    go : Dec (j < length s) → j < length s
-    go (yes l) = l
-    go (no l) = absurd (e (get_or-eq_default s 0 (omega arith)))
-
-pub digit_low : (c : ℕ) → digit c ≡ true → 48 ≤ c
-unfolding digit
-digit_low c e = leb-true _ _ (and_left _ _ e)
-
-pub digit-inside : (s : List ℕ) (j : ℕ) → digit (byte s j) ≡ true → j < length s
-digit-inside s j e = byte_inside s j (λ z. omega (arith, digit_low (byte s j) e, z))
-
-pub numeral-none : (a b c : ℕ) → digit a ≡ false → numeral_of a b c ≡ None
-unfolding numeral_of
-numeral-none a b c e = rw (e, numeral_of)
-
--- what holds of each width that a number may have holds of the number
-pub numeral-cases : (P : Option Decimal → Type 0) (a b c : ℕ) →
-    (digit a ≡ false → P None) →
-    (digit a ≡ true → a ≡ 48 → P (Some (record { value = 0; width = 1 }))) →
-    (digit a ≡ true → a ≢ 48 → digit b ≡ false → P (Some (record { value = a - 48; width = 1 }))) →
-    (digit a ≡ true → a ≢ 48 → digit b ≡ true → digit c ≡ false → P (Some (record { value = 10 * (a - 48) + (b - 48); width = 2 }))) →
-    (digit a ≡ true → a ≢ 48 → digit b ≡ true → digit c ≡ true → P (Some (record { value = 100 * (a - 48) + (10 * (b - 48) + (c - 48)); width = 3 }))) →
-    P (numeral_of a b c)
-numeral-cases P a b c none zero' one two three = go (digit a) (ℕ_discrete a 48) (digit b) (digit c) refl refl refl
-  where
-    go : (x : Bool) → Dec (a ≡ 48) → (y z : Bool) → digit a ≡ x → digit b ≡ y → digit c ≡ z → P (numeral_of a b c)
-    go false o y z p q r = rw (numeral-none a b c p) (none p)
-    go true (yes u) y z p q r = rw (numeral-0 a b c u) (zero' p u)
-    go true (no u) false z p q r = rw (numeral-1 a b c p u q) (one p u q)
-    go true (no u) true false p q r = rw (numeral-2 a b c p u q r) (two p u q r)
-    go true (no u) true true p q r = rw (numeral-3 a b c p u q r) (three p u q r)
-
--- how many bytes a number takes, 0 where none stands
-unfoldable width_of : Option Decimal → ℕ
-width_of None = 0
-width_of (Some n) = n.width
-
--- the bytes of a number are there
-pub numeral-width : (s : List ℕ) {n : Decimal} → numeral s ≡ Some n → n.width ≤ length s
-unfolding numeral width_of
-numeral-width s {n} e =
-    let all = numeral-cases (λ o. width_of o ≤ length s) (byte s 0) (byte s 1) (byte s 2)
-    (λ p. omega arith)
-    (λ p u. omega (arith, digit-inside s 0 p))
-    (λ p u q. omega (arith, digit-inside s 0 p))
-    (λ p u q r. omega (arith, digit-inside s 1 q))
-    (λ p u q r. omega (arith, digit-inside s 2 r)) in
-    rw e at all
-
 -- digits stand after the number
 pub number_more : (missing : Cause) (s : List ℕ) {n : Decimal} → numeral s ≡ Some n → digit (byte s n.width) ≡ true → number_read missing s ≡ Err (digits_cause n.width)
 unfolding number_read number_alone
@@ -159,6 +103,3 @@ module _ (ks : List Kind) (i : ℕ) (d : ℕ) (s : List ℕ) where
 -- the part of a slice from n on
 pub part : (n : ℕ) (s : List ℕ) → take (length s - n) (drop n s) ≡ drop n s
 part n s = take_all (length s - n) (drop n s) (omega (arith, length-drop n s))
-
-pub width-inside : (missing : Cause) (s : List ℕ) {n : Decimal} → number_read missing s ≡ Ok n → n.width ≤ length s
-width-inside missing s q = numeral-width s (number-some missing s q)

@@ -23,6 +23,7 @@ use Rattle.text_put.specs.Digits.{digits-few}
 use Rattle.text_put.specs.Laws.{put-over, putting-end, putting-on, putting-room, putting-start}
 use Rattle.text_form.specs.Laws.Identity.{next-visited, walk_end}
 use Rattle.text_form.specs.Laws.Nesting.{walk-next}
+use Rattle.text_form.specs.Laws.Clients.{client-few}
 use Rattle.text_form.specs.Laws.Putting.{entry_length, fields-length}
 use Rattle.text_form.specs.Lines.{ambient_word, entry, hidden_word, in_word, kind_at, kind_word, line_bytes, line_word, open_word, out_word, render}
 use Rattle.text_form.specs.Parts.{Whole, Written, front, numbered, visit_line}
@@ -90,7 +91,7 @@ front-numbered false n = refl
 
 -- a visit is written as its line
 pub visit-is : (listed : Bool) (its shown : List Rec) (v : Visit) (r x : Rec) {o : Option ℕ} {k : Option Kind} {b : Bool} → o ≡ then_some listed v.number → r ≡ at its v.number → x ≡ at shown v.number → k ≡ kind_at r.kind → b ≡ eqb x.kind 0 →
-    entry (numbered o) (mark (listed && b)) (record { depth = v.depth; kind = k; label = r.label; name = r.name }) ≡ visit_line listed its shown v
+    entry (numbered o) (mark (listed && b)) (record { depth = v.depth; kind = k; label = r.label; name = r.name; client = r.client }) ≡ visit_line listed its shown v
 unfolding visit_line line_at
 visit-is listed its shown v r x {o = o} d e f g h =
     let n : numbered o ≡ front listed v.number = ap numbered d ∙ front-numbered listed v.number in
@@ -138,7 +139,7 @@ front-short false n = omega arith
 pub visit-short : (listed : Bool) (its shown : List Rec) (v : Visit) → v.depth ≤ 1024 → length (visit_line listed its shown v) ≤ 2100
 unfolding visit_line line_at
 visit-short listed its shown v h =
-    omega (arith, entry_length (front listed v.number) (mark (listed && eqb (at shown v.number).kind 0)) (line_at its v), fields-length (line_at its v), front-short listed v.number, mark-short (listed && eqb (at shown v.number).kind 0), word-short (kind_at (at its v.number).kind), digits-few 5 (at its v.number).label, digits-few 5 (at its v.number).name)
+    omega (arith, entry_length (front listed v.number) (mark (listed && eqb (at shown v.number).kind 0)) (line_at its v), fields-length (line_at its v), front-short listed v.number, mark-short (listed && eqb (at shown v.number).kind 0), word-short (kind_at (at its v.number).kind), digits-few 5 (at its v.number).label, digits-few 5 (at its v.number).name, client-few (at its v.number).client)
 
 -- a walk has no more visits than it may have, and none is deep
 walk-few : (its : List Rec) (n p d : ℕ) → length (walk_from its n p d) ≤ n

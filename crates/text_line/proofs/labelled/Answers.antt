@@ -1,7 +1,7 @@
 -- `text_line::labelled` meets its contract: the label fits, and its bytes are inside.
 use Rattle.std.proofs.Common.{◌∙◌, sym, arith}
 use Rattle.model.proofs.Laws.WellFormed.{label-in}
-use Rattle.text_form.specs.Laws.Scanning.{width-inside}
+use Rattle.text_form.specs.Laws.Numerals.{width-inside}
 use Rattle.text_form.specs.declared.Cause.TheVariants as cause
 use Rattle.text_line.proofs.labelled.Goals as goal
 

@@ -7,11 +7,11 @@ use Rattle.text_read.proofs.length_told.Goals as goal
 
 pub returns-in-Err : goal.returns-in-Err
 unfolding length_told
-returns-in-Err c = rw (lt-leb _ longest c.if-len-gt1061888.true) (sym (ap (length_told false) c.in-Err.is))
+returns-in-Err c = rw (lt-leb _ longest c.if-len-gt1065984.true) (sym (ap (length_told false) c.in-Err.is))
 
 pub returns-in_default : goal.returns-in_default
 unfolding length_told
-returns-in_default c = rw (le-leb _ longest c.if-len-gt1061888.false) (sym c.in-Err.is)
+returns-in_default c = rw (le-leb _ longest c.if-len-gt1065984.false) (sym c.in-Err.is)
 
 told : (b : Bool) (n : ℕ) → Ok n ≡ length_told b (Ok n)
 unfolding length_told

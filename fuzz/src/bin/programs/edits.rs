@@ -23,6 +23,8 @@ pub enum Edit {
     ZeroInFront,
     DigitAdded,
     DigitChanged,
+    ClientAdded,
+    ClientRemoved,
     Indented,
     Outdented,
     LastEndRemoved,
@@ -32,7 +34,7 @@ pub enum Edit {
 
 use Edit::*;
 
-pub const EDITS: [Edit; 24] = [
+pub const EDITS: [Edit; 26] = [
     None,
     ByteChanged,
     ByteRemoved,
@@ -52,6 +54,8 @@ pub const EDITS: [Edit; 24] = [
     ZeroInFront,
     DigitAdded,
     DigitChanged,
+    ClientAdded,
+    ClientRemoved,
     Indented,
     Outdented,
     LastEndRemoved,
@@ -61,6 +65,10 @@ pub const EDITS: [Edit; 24] = [
 
 /// Characters that an editor doesn't show, or shows as a space.
 const INVISIBLE: [&str; 7] = ["\u{a0}", "\u{ad}", "\u{200b}", "\u{feff}", "\u{b}", "\u{7f}", "\0"];
+
+/// What may be written for a client behind the name, and what may not.
+const CLIENTS: [&str; 13] =
+    [" 1", " 17", " 255", " 256", " 999", " 0", " 00", " 017", " 1000", " 65537", " ", "  17", " x"];
 
 /// Some place whose byte is as wanted; of an empty choice none.
 fn place(random: &mut Random, text: &[u8], wanted: impl Fn(u8) -> bool) -> Option<usize> {
@@ -134,6 +142,15 @@ fn edit_lines(random: &mut Random, edit: Edit, lines: &mut Vec<Vec<u8>>) {
             lines[at].insert(end, b'\r');
         }
         Returns => lines.iter_mut().for_each(|line| line.insert(line.len() - 1, b'\r')),
+        ClientAdded => {
+            let end = lines[at].len() - 1;
+            lines[at].splice(end..end, random.pick(&CLIENTS).bytes());
+        }
+        ClientRemoved => {
+            let end = lines[at].len() - 1;
+            let space = lines[at].iter().rposition(|&byte| space(byte)).unwrap_or(end);
+            lines[at].drain(space..end);
+        }
         Indented => drop(lines[at].splice(0..0, vec![b' '; random.between(1, 4)])),
         Outdented => {
             let spaces = lines[at].iter().take_while(|&&byte| space(byte)).count();
@@ -156,6 +173,8 @@ pub fn apply(random: &mut Random, edit: Edit, text: &mut Vec<u8>) -> bool {
         LinesSwapped,
         Return,
         Returns,
+        ClientAdded,
+        ClientRemoved,
         Indented,
         Outdented,
         TooManyLines,

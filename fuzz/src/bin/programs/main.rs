@@ -10,6 +10,7 @@ use edits::{apply, Edit, EDITS};
 use fuzz::draw::Case;
 use fuzz::families::{Family, FAMILIES};
 use running::Runs;
+use simulator::generate::clients;
 use simulator::generate::trees::{chain, tree, Links, Mix};
 use simulator::random::Random;
 use simulator::record::{Itinerary, MOST_RECORDS};
@@ -48,7 +49,7 @@ impl Options {
 /// A text of the readable form.
 fn draw_text(random: &mut Random) -> Vec<u8> {
     let itinerary = match random.below(100) {
-        0 => chain(MOST_RECORDS, Links::Turns, true),
+        0 => clients::given(random, 70, &chain(MOST_RECORDS, Links::Turns, true)),
         1 => Itinerary { records: vec![] },
         2..=20 => {
             let mix = Mix::medium(random);

@@ -1,12 +1,15 @@
-//! The readable form, from its description: a line is kind, label and name, behind two spaces for each record above.
+//! The readable form, from its description: a line is kind, label, name and, unless that is 0, client, behind two spaces
+//! for each record above.
 
-use simulator::record::{Itinerary, Kind, Record, MOST_RECORDS};
+use simulator::record::{Itinerary, Kind, Record, LAST_CLIENT, MOST_RECORDS};
+use std::str::FromStr;
 
 const WORDS: [(&str, Kind); 4] =
     [("ambient", Kind::Ambient), ("in", Kind::In), ("out", Kind::Out), ("open", Kind::Open)];
 
-/// The length of the longest text that can be read: 1,024 lines, each a step deeper, of ambients with two digits twice.
-pub const LONGEST: usize = MOST_RECORDS * (MOST_RECORDS - 1) + MOST_RECORDS * "ambient 63 63\n".len();
+/// The length of the longest text that can be read: 1,024 lines, each a step deeper, of ambients with two digits twice
+/// and three for the client.
+pub const LONGEST: usize = MOST_RECORDS * (MOST_RECORDS - 1) + MOST_RECORDS * "ambient 63 63 999\n".len();
 
 /// The itinerary's bytes, or the number of the first line with a fault.
 pub fn read(text: &[u8]) -> Result<Vec<u8>, usize> {
@@ -35,18 +38,27 @@ fn read_line(line: &[u8]) -> Option<(usize, Record)> {
     let fields = line.trim_start_matches(' ');
     let spaces = line.len() - fields.len();
     let fields: Vec<&str> = fields.split(' ').collect();
-    let [word, label, name] = fields[..] else { return None };
+    let (word, label, name, client) = match fields[..] {
+        [word, label, name] => (word, label, name, 0),
+        [word, label, name, client] => (word, label, name, read_client(client)?),
+        _ => return None,
+    };
     let kind = WORDS.iter().find(|(known, _)| *known == word)?.1;
     let (label, name) = (read_number(label)?, read_number(name)?);
     let labels = if kind == Kind::Ambient { 1..=63 } else { 64..=127 };
     let right = spaces % 2 == 0 && labels.contains(&label) && name <= 63;
-    right.then_some((spaces / 2, Record { kind, label, name, parent: 0 }))
+    right.then_some((spaces / 2, Record { kind, label, name, parent: 0, client }))
 }
 
 /// Digits alone, no zero in front.
-fn read_number(digits: &str) -> Option<u8> {
-    let number: u8 = digits.parse().ok()?;
+fn read_number<N: FromStr + ToString>(digits: &str) -> Option<N> {
+    let number: N = digits.parse().ok()?;
     (number.to_string() == digits).then_some(number)
+}
+
+/// Client 0 isn't written.
+fn read_client(digits: &str) -> Option<u16> {
+    read_number(digits).filter(|client| (1..=LAST_CLIENT).contains(client))
 }
 
 /// The lines of a tree, what stands in a record below it, by numbers; `line` writes a record.
@@ -62,7 +74,8 @@ fn write_lines(itinerary: &Itinerary, line: &dyn Fn(u16, &str) -> String) -> Str
     while let Some((number, depth)) = left.pop() {
         let record = itinerary.records[number as usize - 1];
         let word = WORDS.iter().find(|(_, kind)| *kind == record.kind).map_or("", |(word, _)| word);
-        let fields = format!("{word} {} {}", record.label, record.name);
+        let client = if record.client == 0 { String::new() } else { format!(" {}", record.client) };
+        let fields = format!("{word} {} {}{client}", record.label, record.name);
         text += &format!("{}{}\n", "  ".repeat(depth), line(number, &fields));
         let below: Vec<(u16, usize)> = children(number).map(|child| (child, depth + 1)).collect();
         left.extend(below.into_iter().rev());
@@ -90,6 +103,34 @@ mod tests {
     /// What stands in the file of a case; a missing file is an empty one.
     fn content(case: &std::path::Path, file: &str) -> Vec<u8> {
         fs::read(case.join(file)).unwrap_or_default()
+    }
+
+    #[test]
+    fn clients_are_read_where_they_are_written() {
+        let client = |line: &str| read_line(line.as_bytes()).map(|(_, record)| record.client);
+        for (line, wanted) in
+            [("ambient 1 0", 0), ("ambient 1 0 17", 17), ("  in 64 5 1", 1), ("open 127 63 999", 999)]
+        {
+            assert_eq!(client(line), Some(wanted), "{line}");
+        }
+        for line in [
+            "ambient 1 0 0",
+            "ambient 1 0 00",
+            "ambient 1 0 017",
+            "ambient 1 0 1000",
+            "ambient 1 0 65536",
+            "ambient 1 0 -1",
+            "ambient 1 0 +1",
+            "ambient 1 0 ",
+            "ambient 1 0  17",
+            "ambient 1 0 17 ",
+            "ambient 1 0 17 5",
+            "ambient 1 0\t17",
+            "ambient 1 0 17\r",
+            "ambient 1 0 x",
+        ] {
+            assert_eq!(client(line), None, "{line}");
+        }
     }
 
     #[test]
