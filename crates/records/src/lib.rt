@@ -59,9 +59,7 @@ pub fn word(low: u8, high: u8) -> u16
 }
 
 // Record i byte by byte, past the last whole record. (The one form for all records would test the length for each byte;
-// `record_at` is the most frequent call of all, and this part of it, which no record of an itinerary needs, is kept out of the way.)
-#[cold]
-#[inline(never)]
+// `record_at` is the most frequent call of all.)
 fn edge_at(it: &[u8], i: u16) -> Rec
     ensures { result ≡ decode it.now i }
 {
