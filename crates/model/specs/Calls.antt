@@ -92,7 +92,7 @@ moving s list =
     validity s
     ▸ need (leb (length (list_bytes (moves permit_all (records s)))) (length list)) 15 0
 
--- the list's call returns the tally that stands "beside it"
+-- the list's call returns the tally: "Beside it stands a tally"
 unfoldable pub moves_answer : List ℕ → List ℕ → Answer Tally
 moves_answer s list = answer (moving s list) (tally_of permit_all (records s))
 

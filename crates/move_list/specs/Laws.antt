@@ -2,7 +2,7 @@
 -- actor all have that answer, and none is listed; where the actor is ready a partner that fits is done and listed, and every
 -- other has 12.
 use Rattle.std.specs.Prelude.{◌%◌, ◌+◌, ◌-◌, ◌<◌, ◌≤◌, suc, zero, ℕ, eqb, length, Bool, false, true, List, [], ◌++◌, ◌∷◌, ◌≡◌, refl, Ok, Err, ◌⊎◌}
-use Rattle.std.proofs.Common.{add-one, ◌∙◌, ap, sym, arith, inl, inr}
+use Rattle.std.proofs.Common.{add-one, zero-add, ◌∙◌, ap, sym, arith, inl, inr}
 use Rattle.model.specs.Analysis.{permit_all}
 use Rattle.model.specs.Finite.{joined, one_if, summed, tally}
 use Rattle.model.specs.MoveList.{answering, answering_of, list_bytes, listed, moves, moves_of, tally_by, tally_of}
@@ -27,7 +27,7 @@ use Rattle.model.proofs.Laws.Forest.{tally-same}
 use Rattle.model.proofs.Laws.MoveList.{actor-le, bytes-append, summed-le}
 use Rattle.move_list.specs.Pairs.{Roomy, added, all_refused, left, listed_at, pair, actor_tally, rows_to}
 use Rattle.steps.specs.Laws.{admitted-cause, as-admitted}
-use Rattle.steps.specs.Moves.{admitted, fit_by}
+use Rattle.steps.specs.Moves.{Places, admitted, fit_by}
 use Rattle.steps.specs.declared.Acting.{Acting}
 
 -- none passes, all pass, and those that pass with those that don't
@@ -54,6 +54,28 @@ tally_is e f g h = rw (e, f, g, h) refl
 pub tally-next : (t : ℕ → Bool) (fits n k : ℕ) → fits ≡ tally t n → k ≡ one_if (t (n + 1)) → fits + k ≡ tally t (n + 1)
 unfolding tally
 tally-next t fits n k e f = rw (add-one n) (omega (arith, e, f ∙ ap (λ i. one_if (t i)) (add-one n)))
+
+-- the partners that may fit are counted among some of them: none passes before, and none behind
+tally-before : (t : ℕ → Bool) (k : ℕ) → ((i : ℕ) → 1 ≤ i → i ≤ k → t i ≡ false) → 0 ≡ tally t k
+unfolding tally one_if
+tally-before t zero h = refl
+tally-before t (suc k) h = rw (h (suc k) (omega arith) (omega arith), ← tally-before t k (λ i a b. h i a (omega arith))) refl
+
+tally-behind : (t : ℕ → Bool) (k d : ℕ) → ((i : ℕ) → k < i → i ≤ k + d → t i ≡ false) → tally t k ≡ tally t (k + d)
+unfolding tally one_if
+tally-behind t k zero h = ap (tally t) (omega arith)
+tally-behind t k (suc d) h =
+    let e : k + suc d ≡ suc (k + d) = omega arith in
+    rw (e, h (suc (k + d)) (omega arith) (omega arith)) (omega (arith, tally-behind t k d (λ i a b. h i a (omega arith))))
+
+module _ {x : Acting} {n lo hi : ℕ} (p : Places x n lo hi) (r : ℕ → Rec) where
+  pub places-start : 0 ≡ tally (λ b. fit_by x (r b) b) lo
+  places-start = tally-before (λ b. fit_by x (r b) b) lo (λ b. p.before (r b) b)
+
+  pub places-end : tally (λ b. fit_by x (r b) b) hi ≡ tally (λ b. fit_by x (r b) b) n
+  places-end =
+      let e : hi + (n - hi) ≡ n = omega (arith, p.inside) in
+      tally-behind (λ b. fit_by x (r b) b) hi (n - hi) (λ b a c. p.behind (r b) b a (omega arith)) ∙ ap (tally (λ b. fit_by x (r b) b)) e
 
 joined-none : (i n : ℕ) (f : ℕ → List Step) → ((b : ℕ) → f b ≡ []) → joined i n f ≡ []
 unfolding joined
@@ -194,6 +216,24 @@ left-next f n k l =
 pub left-none : (f : ℕ → List Step) (n : ℕ) → left f n n ≡ []
 unfolding left list_bytes joined
 left-none f n = let e : n - n ≡ 0 = omega arith in rw e refl
+
+-- nothing is listed between
+left-same : (f : ℕ → List Step) (n k d : ℕ) → k + d ≤ n → ((i : ℕ) → k < i → i ≤ k + d → f i ≡ []) → left f n k ≡ left f n (k + d)
+unfolding list_bytes
+left-same f n k zero l h = ap (left f n) (omega arith)
+left-same f n k (suc d) l h =
+    let e : k + 1 + d ≡ k + suc d = omega arith in
+    left-next f n k (omega arith) ∙ rw (h (k + 1) (omega arith) (omega arith)) (left-same f n (k + 1) d (omega arith) (λ i a b. h i (omega arith) (omega arith)) ∙ ap (left f n) e)
+
+-- a ready actor's pairs are listed among those who may fit
+module _ (its : List Rec) (c : ℕ) (x : Acting) (e : admitted its c ≡ Ok x) {n lo hi : ℕ} (p : Places x n lo hi) where
+  pub left-before : left (listed_at its c) n 0 ≡ left (listed_at its c) n lo
+  left-before = left-same (listed_at its c) n 0 lo (omega (arith, p.ordered, p.inside)) (λ b a l. listed-unfit its c x e b (p.before _ b (omega arith) (omega arith))) ∙ ap (left (listed_at its c) n) (zero-add lo)
+
+  pub left-behind : left (listed_at its c) n hi ≡ []
+  left-behind =
+      let q : hi + (n - hi) ≡ n = omega (arith, p.inside) in
+      left-same (listed_at its c) n hi (n - hi) (omega arith) (λ b a l. listed-unfit its c x e b (p.behind _ b a (omega arith))) ∙ ap (left (listed_at its c) n) q ∙ left-none (listed_at its c) n
 
 -- what is known of an itinerary that is valid: its records are whole and at most 1,024
 pub few-records : (s : List ℕ) → validity s ≡ pass → (length (records s) ≡ count s) × (count s ≤ 1024) × (length s % 8 ≡ 0)

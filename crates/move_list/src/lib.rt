@@ -31,7 +31,8 @@ fn fitting(it: &Itinerary, x: Acting) -> u32
     ensures { result ≡ tally (λ b. fit_by x (decode it.now b) b) (count it.now) }
 {
     let mut fits = 0;
-    for b in 0..it.count() {
+    let (first, last) = steps::places(x, it.count());
+    for b in first..last {
         fits += steps::fits(x, records::record_in(it.bytes, b + 1), b + 1) as u32;
     }
     fits
@@ -128,7 +129,8 @@ fn put_moves_of(it: &Itinerary, x: Acting, actor: u16, list: &mut [u8], at: usiz
     ensures { Put list.old at (list_bytes (moves_of permit_all (records it.now) actor)) list.new result }
 {
     let mut end = at;
-    for b in 0..it.count() {
+    let (first, last) = steps::places(x, it.count());
+    for b in first..last {
         if steps::fits(x, records::record_in(it.bytes, b + 1), b + 1) {
             end = put_pair(list, end, actor, b + 1);
         }

@@ -22,7 +22,7 @@ fn spare_right(it: &[u8], i: u16) -> bool
 
 // Whether the client's number is one.
 #[tactic(auto, unfolding(model::specs::Validity::client_right))]
-pub fn client_right(r: Rec) -> bool
+fn client_right(r: Rec) -> bool
     ensures { result ≡ client_right r }
 {
     r.client <= 999

@@ -1,6 +1,6 @@
 -- Laws of the decided step: that its one pass is the step of the definitions.
 use Rattle.std.specs.Prelude.{◌%◌, suc, ℕ, eqb, length, Bool, ◌&&◌, ◌||◌, ◌≢◌, ◌≡◌, ◌⊎◌}
-use Rattle.std.proofs.Common.{true≢false, ◌∙◌, arith, inl, inr}
+use Rattle.std.proofs.Common.{true≢false, ◌∙◌, arith, inl, inr, ◌-◌, min, ne_eqb}
 use Rattle.std.proofs.lemmas.Bool.{eqb-false}
 use Rattle.std.proofs.Math.Bool.{false, true}
 use mathlib.Core.List.{List, [], ◌∷◌}
@@ -20,7 +20,7 @@ use Rattle.model.specs.Refusals.{pass}
 use Rattle.model.specs.Steps.{Outcome, done-by, refused-with, decide, dissolve, dissolved, fit, move, outcome, outcome_by, place, placed, ready, rewritten, stands, step_bytes}
 use Rattle.model.specs.Validity.{validity}
 use Rattle.model.specs.declared.Rec.{Rec}
-use Rattle.steps.specs.Moves.{admitted, admitted_by, admitted_if, applied, changed, changes, fit_by, move_by, acting_at, remade, stands_by, touched_by}
+use Rattle.steps.specs.Moves.{Places, admitted, admitted_by, admitted_if, applied, changed, changes, fit_by, move_by, acting_at, remade, stands_by, touched_by}
 use Rattle.steps.specs.declared.Acting.{Acting}
 use Rattle.steps.specs.declared.Change.{Change}
 use Rattle.steps.specs.declared.Change.TheVariants.{Opens, To}
@@ -54,6 +54,26 @@ stands_at cap-open its c b = refl
 fit_at : (k : Capability) (its : List Rec) (c b : ℕ) → fit_by (acting_at k its c) (at its b) b ≡ fit permit_all k its c b
 unfolding fit_by fit acting_at
 fit_at k its c b = ap (λ x. is_ambient (at its b) && eqb (at its b).name (at its c).name && x) (stands_at k its c b) ∙ sym (and-true _)
+
+-- who may fit a ready actor: for an out its parent's parent alone
+and-false : (b : Bool) → (b && false) ≡ false
+and-false true = refl
+and-false false = refl
+
+fit-elsewhere : (x : Acting) (p : Rec) (b : ℕ) → x.capability ≡ cap-out → b ≢ x.above.parent → fit_by x p b ≡ false
+unfolding fit_by stands_by
+fit-elsewhere x p b e n = rw (e, ne_eqb b x.above.parent n) (and-false (is_ambient p && eqb p.name x.actor.name))
+
+pub places-out : (x : Acting) (n lo hi : ℕ) → x.capability ≡ cap-out → hi ≡ min x.above.parent n → lo ≡ hi - 1 → Places x n lo hi
+places-out x n lo hi e f g = record {
+  ordered = omega arith;
+  inside = omega arith;
+  before = λ p b l m. fit-elsewhere x p b e (λ q. omega arith);
+  behind = λ p b l m. fit-elsewhere x p b e (λ q. omega arith);
+}
+
+pub places-all : (x : Acting) (n : ℕ) → Places x n 0 n
+places-all x n = record { ordered = omega arith; inside = omega arith; before = λ p b l m. absurd (omega arith); behind = λ p b l m. absurd (omega arith) }
 
 -- what becomes of a step, by what 10 and 11 let through of its actor
 module _ (its : List Rec) (c b : ℕ) where

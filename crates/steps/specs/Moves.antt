@@ -1,6 +1,6 @@
 -- What 10 and 11 let through of an actor, whether a partner fits it, and a step that is decided, as the code holds them; what the
 -- step makes of each record.
-use Rattle.std.specs.Prelude.{ℕ, eqb, Bool, ◌&&◌, ◌||◌, false, not, true, List}
+use Rattle.std.specs.Prelude.{ℕ, eqb, Bool, ◌&&◌, ◌<◌, ◌||◌, ◌≡◌, ◌≤◌, false, not, true, List}
 use Rattle.std.specs.Prelude.{Option, None, Some, Result, Ok, Err}
 use Rattle.model.specs.Records.{at, capability, is_ambient, parent_of, update}
 use Rattle.model.specs.Steps.{dissolved, placed, ready}
@@ -41,6 +41,13 @@ stands_by cap-open x p b = eqb p.parent x.actor.parent
 -- whether the partner b fits: an ambient with the actor's name that stands where it has to
 unfoldable pub fit_by : Acting → Rec → ℕ → Bool
 fit_by x p b = is_ambient p && eqb p.name x.actor.name && stands_by x.capability x p b
+
+-- the partners that fit a ready actor stand behind the number lo, up to hi, of the n records
+pub record Places (x : Acting) (n lo hi : ℕ) : Type 0 where
+  pub ordered : lo ≤ hi
+  pub inside : hi ≤ n
+  pub before : (p : Rec) (b : ℕ) → 1 ≤ b → b ≤ lo → fit_by x p b ≡ false
+  pub behind : (p : Rec) (b : ℕ) → hi < b → b ≤ n → fit_by x p b ≡ false
 
 -- what a step that is done does, from the parents of c and b
 unfoldable pub move_by : Capability → ℕ → ℕ → ℕ → ℕ → Move

@@ -10,7 +10,7 @@ ghost use Rattle.model.specs.Refusals.{pass};
 ghost use Rattle.model.specs.Steps.{dissolved, outcome, placed, ready, step_bytes};
 ghost use Rattle.model.specs.Validity.{validity};
 ghost use Rattle.records.specs.Written.{with_record};
-ghost use Rattle.steps.specs.Moves.{admitted, applied, changed, changes, fit_by, move_by, remade, stands_by, touched_by};
+ghost use Rattle.steps.specs.Moves.{Places, admitted, applied, changed, changes, fit_by, move_by, remade, stands_by, touched_by};
 
 use model::{Capability, Cause, Rec};
 
@@ -89,6 +89,20 @@ pub fn fits(x: Acting, p: Rec, partner: u16) -> bool
     ensures { result ≡ fit_by x p partner }
 {
     (p.is_ambient() & (p.name == x.actor.name)) & stands(x, p, partner)
+}
+
+// Which of n records may fit a ready actor, for whoever looks for its partners: those behind the first number, up to the last. For an
+// out it is one, its parent's parent.
+pub fn places(x: Acting, n: u16) -> (u16, u16)
+    ensures { Places x n result.0 result.1 }
+{
+    match x.capability {
+        Capability::Out => {
+            let last = x.above.parent.min(n);
+            (last.saturating_sub(1), last)
+        }
+        _ => (0, n),
+    }
 }
 
 // Whether a step is done or refused, 10, 11 and 12 in this order.

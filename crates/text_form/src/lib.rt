@@ -103,8 +103,8 @@ pub struct LineRead {
     pub left: usize,
 }
 
-// The cause of a fault. The first ten are in the order in which a line is looked at, and the two about a client come after the
-// eighth.
+// The cause of a fault. The first ten are in the order in which a line is looked at; the two about a client, the last of them first,
+// come after the eighth.
 #[derive(Clone, Copy, PartialEq, Eq)]
 pub enum Cause {
     // More records than 1,024 or than the itinerary's bytes hold.

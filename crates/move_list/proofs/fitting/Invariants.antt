@@ -1,4 +1,4 @@
--- `move_list::fitting` meets its contract. So many of the partners looked at fit.
+-- `move_list::fitting` meets its contract. So many of the partners up to the one looked at fit.
 use Rattle.std.specs.Prelude.{◌≡◌, ◌≤◌}
 use Rattle.model.specs.Finite.{tally}
 use Rattle.model.specs.Records.{decode}
