@@ -223,6 +223,19 @@ pub fn opens() -> Lent {
     Lent::of(&Itinerary { records }).about(3, 2).with_script(steps)
 }
 
+/// 256 boxes inside one another, 512 ambients in the last, and 255 opens from inside out: each moves half of all records.
+pub fn carried() -> Lent {
+    let mut records = Vec::new();
+    for level in 0..256 {
+        let parent = if level == 0 { 0 } else { 2 * level - 1 };
+        records.push(ambient(1 + level % 63, 1, parent));
+        records.push(order(Kind::Open, 64 + level % 64, 1, 2 * level + 1));
+    }
+    records.extend((0..512).map(|place| ambient(1 + place % 63, 2, 511)));
+    let steps = (1..=255).rev().map(|level| (2 * level, 2 * level + 1));
+    Lent::of(&Itinerary { records }).with_script(steps)
+}
+
 /// 1,024 steps of the capability below 1,023 ambients, each with a wrong partner.
 pub fn refused() -> Lent {
     let itinerary = chain(MOST_RECORDS, Links::LastActs(Kind::Open), false);

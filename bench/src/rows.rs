@@ -109,6 +109,7 @@ fn itinerary_rows() -> Vec<Row> {
         step("step, open", from_ref(&opens)),
         run("run, 1,022 ins and outs", from_ref(&to_and_fro)),
         run("run, 511 opens", from_ref(&opens)),
+        run("run, 255 opens that each move 512 records", &[inputs::carried()]),
         run("run, 1,024 refused at depth 1,023", &[inputs::refused()]),
     ]
 }

@@ -61,23 +61,56 @@ fn decide(itinerary: &[u8], actor: u16, partner: u16) -> Result<Move, u8> {
     })
 }
 
-/// One pass over the records.
-fn apply(itinerary: &mut [u8], m: &Move) {
-    for (place, bytes) in itinerary.chunks_exact_mut(RECORD).enumerate() {
-        let number = place as u16 + 1;
-        if number == m.actor || number == m.opened {
-            bytes.fill(0);
-            continue;
-        }
-        let mut parent = Record::read(bytes).parent;
-        if number == m.mover {
-            parent = m.dest;
-        }
-        if parent == m.actor || parent == m.opened {
-            parent = m.home;
-        }
-        bytes[4..6].copy_from_slice(&parent.to_le_bytes());
+/// How many records, from `from` on up to `end`, stand before record `number`.
+fn short_of(number: u16, from: usize, end: usize) -> usize {
+    let number = usize::from(number);
+    if from < number && number <= end {
+        number - 1
+    } else {
+        end
     }
+}
+
+/// How many records there are, from `from` on up to `end`, before one whose
+/// parent is x or y.
+fn childless_to(itinerary: &[u8], x: u16, y: u16, from: usize, end: usize) -> usize {
+    let records = itinerary[from * RECORD..end * RECORD].chunks_exact(RECORD);
+    let child = |bytes: &[u8]| {
+        let parent = u16::from_le_bytes([bytes[4], bytes[5]]);
+        parent == x || parent == y
+    };
+    records.map(child).position(|child| child).map_or(end, |place| from + place)
+}
+
+/// One pass over the records, from one that the move changes to the next.
+fn apply(itinerary: &mut [u8], m: &Move) {
+    let count = itinerary.len() / RECORD;
+    let other = if m.mover == 0 { m.opened } else { m.mover };
+    let mut place = 0;
+    while place < count {
+        let named = short_of(m.actor, place, short_of(other, place, count));
+        place = childless_to(itinerary, m.actor, m.opened, place, named);
+        if place < count {
+            remake(&mut itinerary[place * RECORD..][..RECORD], m, place as u16 + 1);
+            place += 1;
+        }
+    }
+}
+
+/// A record as after the move.
+fn remake(bytes: &mut [u8], m: &Move, number: u16) {
+    if number == m.actor || number == m.opened {
+        bytes.fill(0);
+        return;
+    }
+    let mut parent = u16::from_le_bytes([bytes[4], bytes[5]]);
+    if number == m.mover {
+        parent = m.dest;
+    }
+    if parent == m.actor || parent == m.opened {
+        parent = m.home;
+    }
+    bytes[4..6].copy_from_slice(&parent.to_le_bytes());
 }
 
 pub fn act(itinerary: &mut [u8], actor: u16, partner: u16) -> Result<(), u8> {

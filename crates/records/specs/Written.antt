@@ -4,6 +4,7 @@ use Rattle.std.proofs.Math.ListN.{drop, length, length-append, length-drop, take
 use Rattle.std.proofs.Common.{drop_of_length-le, take-append-drop, ext_get_or, get_or-take, length-take-le, take_all, take_at, take-suc, ◌∙◌, add-one}
 use Rattle.std.specs.Prelude.{set, ◌≡◌, refl}
 use Rattle.std.proofs.Math.Seq.{drop-append-add, drop-drop, get_or-append-add, get_or-drop}
+use Rattle.std.proofs.lemmas.List.{set-append_right}
 use Rattle.std.proofs.lemmas.List.Edits.{sets-eq}
 use mathlib.Core.List.{List, [], ◌++◌, ◌∷◌, append_assoc, append-nil}
 use Rattle.std.proofs.Math.Path.{ap, sym}
@@ -12,6 +13,7 @@ use Rattle.model.proofs.Laws.Bytes.{back, byte_in, byte-encode, valid-passed, at
 use Rattle.model.proofs.Laws.Updates.{at-update, length-update}
 use Rattle.model.specs.Records.{at, byte, byte_of, count, decode, encode, gone, records, update}
 use Rattle.model.specs.Refusals.{pass}
+use Rattle.model.specs.Steps.{to}
 use Rattle.model.specs.Validity.{validity}
 use Rattle.model.specs.declared.Rec.{Rec}
 
@@ -47,7 +49,22 @@ stores s i r l h =
     let e : 8 * (i - 1) + 8 ≡ 8 * i = omega arith in
     stores_at s (8 * (i - 1)) _ _ _ _ _ _ _ _ (omega arith) ∙ ap (λ k. take (8 * (i - 1)) s ++ (encode (r ∷ []) ++ drop k s)) e
 
-encode-append : (a b : List Rec) → encode (a ++ b) ≡ encode a ++ encode b
+-- the two stores of a parent, over a record that is whole
+two-stores : (a rest : List ℕ) (n k l m z p q x y : ℕ) → length a ≡ n → set (set (a ++ (k ∷ l ∷ m ∷ z ∷ p ∷ q ∷ rest)) (n + 4) x) (n + 5) y ≡ a ++ (k ∷ l ∷ m ∷ z ∷ x ∷ y ∷ rest)
+two-stores a rest n k l m z p q x y e =
+    let four : n + 4 - n ≡ 4 = omega arith in
+    let five : n + 5 - n ≡ 5 = omega arith in
+    ap (λ t. set t (n + 5) y) (set-append_right a (k ∷ l ∷ m ∷ z ∷ p ∷ q ∷ rest) n (n + 4) x e (omega arith) ∙ ap (λ i. a ++ set (k ∷ l ∷ m ∷ z ∷ p ∷ q ∷ rest) i x) four)
+    ∙ set-append_right a (k ∷ l ∷ m ∷ z ∷ x ∷ q ∷ rest) n (n + 5) y e (omega arith) ∙ ap (λ i. a ++ set (k ∷ l ∷ m ∷ z ∷ x ∷ q ∷ rest) i y) five
+
+pub parent-stores : (s : List ℕ) (i q : ℕ) (r : Rec) → 1 ≤ i → 8 * i ≤ length s → with_record s i r ≡ s →
+    set (set s (8 * (i - 1) + 4) (q % 256)) (8 * (i - 1) + 5) (q / 256) ≡ with_record s i (to q r)
+unfolding with_record encode
+parent-stores s i q r l h e =
+    ap (λ t. set (set t (8 * (i - 1) + 4) (q % 256)) (8 * (i - 1) + 5) (q / 256)) (sym e)
+    ∙ two-stores (take (8 * (i - 1)) s) _ (8 * (i - 1)) _ _ _ _ _ _ _ _ (length-take-le (8 * (i - 1)) s (omega arith))
+
+pub encode-append : (a b : List Rec) → encode (a ++ b) ≡ encode a ++ encode b
 unfolding encode
 encode-append [] b = refl
 encode-append (r ∷ a) b = ap (λ l. r.kind ∷ r.label ∷ r.name ∷ 0 ∷ r.parent % 256 ∷ r.parent / 256 ∷ r.client % 256 ∷ r.client / 256 ∷ l) (encode-append a b)

@@ -150,3 +150,16 @@ pub fn put_record(it: &mut [u8], i: u16, r: Rec)
     it[at + 6] = low;
     it[at + 7] = high;
 }
+
+// Writes another parent into a whole record, its two bytes alone.
+pub fn put_parent(it: &mut [u8], i: u16, q: u16)
+    requires some { 1 ≤ i }
+    requires inside { 8 * i ≤ length it.old }
+    requires whole { with_record it.old i (decode it.old i) ≡ it.old }
+    ensures { it.new ≡ with_record it.old i (to q (decode it.old i)) }
+{
+    let at = 8 * ((i as usize) - 1);
+    let [first, second] = q.to_le_bytes();
+    it[at + 4] = first;
+    it[at + 5] = second;
+}

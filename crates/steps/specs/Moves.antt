@@ -1,9 +1,9 @@
 -- What 10 and 11 let through of an actor, whether a partner fits it, and a step that is decided, as the code holds them; what the
 -- step makes of each record.
-use Rattle.std.specs.Prelude.{ℕ, eqb, Bool, ◌&&◌, ◌<◌, ◌||◌, ◌≡◌, ◌≤◌, false, not, true, List}
+use Rattle.std.specs.Prelude.{ℕ, eqb, Bool, ◌&&◌, ◌<◌, ◌≡◌, ◌≤◌, false, not, true, List}
 use Rattle.std.specs.Prelude.{Option, None, Some, Result, Ok, Err}
-use Rattle.model.specs.Records.{at, capability, is_ambient, parent_of, update}
-use Rattle.model.specs.Steps.{dissolved, placed, ready}
+use Rattle.model.specs.Records.{at, capability, gone, is_ambient, parent_of, update}
+use Rattle.model.specs.Steps.{ready, to}
 use Rattle.model.specs.declared.Cause.{Cause}
 use Rattle.model.specs.declared.Cause.TheVariants as cause
 use Rattle.steps.specs.declared.Acting.{Acting}
@@ -55,24 +55,38 @@ move_by cap-in c b q t = record { actor = c; home = q; change = To b }
 move_by cap-out c b q t = record { actor = c; home = q; change = To t }
 move_by cap-open c b q t = record { actor = c; home = q; change = Opens b }
 
--- record i after the change, where q is the actor's parent
-unfoldable pub changed : Change → ℕ → ℕ → Rec → Rec
-changed (To t) q i r = placed q t i r
-changed (Opens b) q i r = dissolved b q i r
+-- the record beside the actor that a change is about, where q is the actor's parent
+unfoldable pub other : Change → ℕ → ℕ
+other (To t) q = q
+other (Opens b) q = b
 
--- record i after the step
+-- what goes beside the actor c, the actor again where nothing is opened
+unfoldable pub opened : Change → ℕ → ℕ
+opened (To t) c = c
+opened (Opens b) c = b
+
+-- the parent p, where x's children go to q
+unfoldable pub past : ℕ → ℕ → ℕ → ℕ
+past x q p = elim (eqb p x) [ true ↦ q | false ↦ p ]
+
+-- the parent of record i, not the actor, after the change, if it stands
+unfoldable pub parent_changed : Change → ℕ → ℕ → ℕ → ℕ → Option ℕ
+parent_changed (To t) c q i p = Some (past c q (elim (eqb i q) [ true ↦ t | false ↦ p ]))
+parent_changed (Opens b) c q i p = elim (eqb i b) [ true ↦ None | false ↦ Some (past c q (past b q p)) ]
+
+-- the parent of record i after the move, if it stands; before it has p
+unfoldable pub parent_after : Move → ℕ → ℕ → Option ℕ
+parent_after m i p = elim (eqb i m.actor) [ true ↦ None | false ↦ parent_changed m.change m.actor m.home i p ]
+
+-- a record with the parent that it gets, or gone
+unfoldable pub rewritten_to : Option ℕ → Rec → Rec
+rewritten_to None r = gone
+rewritten_to (Some p) r = to p r
+
+-- record i after the move
 unfoldable pub remade : Move → ℕ → Rec → Rec
-remade m i r = dissolved m.actor m.home i (changed m.change m.home i r)
+remade m i r = rewritten_to (parent_after m i r.parent) r
 
--- whether a change changes record i, whose parent is p, where q is the actor's parent
-unfoldable pub changes : Change → ℕ → ℕ → ℕ → Bool
-changes (To t) q i p = eqb i q
-changes (Opens b) q i p = eqb i b || eqb p b
-
--- whether a move changes record i, whose parent is p
-unfoldable pub touched_by : Move → ℕ → ℕ → Bool
-touched_by m i p = eqb i m.actor || (eqb p m.actor || changes m.change m.home i p)
-
--- the records after the step
+-- the records after the move
 unfoldable pub applied : Move → List Rec → List Rec
 applied m its = update (remade m) its

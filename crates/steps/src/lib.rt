@@ -5,12 +5,13 @@
 ghost use Rattle.std.specs.Prelude.{◌≡◌, ◌%◌, ◌*◌, ◌≤◌, length};
 ghost use Rattle.model.specs.Analysis.{permit_all};
 ghost use Rattle.model.specs.Numbers.{outcome_as};
-ghost use Rattle.model.specs.Records.{decode, encode, records};
+ghost use Rattle.model.specs.Records.{count, decode, encode, records};
 ghost use Rattle.model.specs.Refusals.{pass};
-ghost use Rattle.model.specs.Steps.{dissolved, outcome, placed, ready, step_bytes};
+ghost use Rattle.model.specs.Steps.{outcome, ready, step_bytes};
 ghost use Rattle.model.specs.Validity.{validity};
 ghost use Rattle.records.specs.Written.{with_record};
-ghost use Rattle.steps.specs.Moves.{Places, admitted, applied, changed, changes, fit_by, move_by, remade, stands_by, touched_by};
+ghost use Rattle.steps.specs.Moves.{Places, admitted, applied, fit_by, move_by, opened, other, parent_after, past, remade, stands_by};
+ghost use Rattle.steps.specs.Passes.{ChildlessTo, ShortOf, UntouchedTo, passed_to};
 
 use model::{Capability, Cause, Rec};
 
@@ -135,68 +136,53 @@ fn move_of(k: Capability, actor: u16, partner: u16, home: u16, above: u16) -> Mo
     }
 }
 
-// Record i, where t becomes the parent of record a.
-fn placed(a: u16, t: u16, i: u16, r: Rec) -> Rec
-    ensures { result ≡ placed a t i r }
-{
-    if i == a {
-        return records::with_parent(r, t);
-    }
-    r
-}
-
-// Record i, where record x goes and its children go to q.
-fn dissolved(x: u16, q: u16, i: u16, r: Rec) -> Rec
-    ensures { result ≡ dissolved x q i r }
-{
-    if i == x {
-        return records::gone();
-    }
-    if r.parent == x {
-        return records::with_parent(r, q);
-    }
-    r
-}
-
-// Record i as the change leaves it.
-#[tactic(auto, unfolding(crate::specs::Moves::changed))]
-fn changed(change: Change, home: u16, i: u16, r: Rec) -> Rec
-    ensures { result ≡ changed change home i r }
+// The record beside the actor that a change is about: home, which gets another parent, or what is opened.
+#[tactic(auto, unfolding(crate::specs::Moves::other))]
+fn other(change: Change, home: u16) -> u16
+    ensures { result ≡ other change home }
 {
     match change {
-        Change::To(dest) => placed(home, dest, i, r),
-        Change::Opens(opened) => dissolved(opened, home, i, r),
+        Change::To(_) => home,
+        Change::Opens(opened) => opened,
     }
 }
 
-// Record i as after the move.
-#[tactic(auto, unfolding(crate::specs::Moves::remade))]
-fn remade(m: Move, i: u16, r: Rec) -> Rec
-    ensures { result ≡ remade m i r }
-{
-    dissolved(m.actor, m.home, i, changed(m.change, m.home, i, r))
-}
-
-// Whether the change changes record i, whose parent is p.
-#[tactic(auto, unfolding(crate::specs::Moves::changes))]
-fn changes(change: Change, home: u16, i: u16, p: u16) -> bool
-    ensures { result ≡ changes change home i p }
+// What goes beside the actor: what is opened, and the actor again where nothing is.
+#[tactic(auto, unfolding(crate::specs::Moves::opened))]
+fn opened(change: Change, actor: u16) -> u16
+    ensures { result ≡ opened change actor }
 {
     match change {
-        Change::To(_) => i == home,
-        Change::Opens(opened) => (i == opened) | (p == opened),
+        Change::To(_) => actor,
+        Change::Opens(opened) => opened,
     }
 }
 
-// Whether the move changes record i, whose parent is p.
-#[tactic(auto, unfolding(crate::specs::Moves::touched_by))]
-fn touched(m: Move, i: u16, p: u16) -> bool
-    ensures { result ≡ touched_by m i p }
+// The parent p, where the children of record x go to q.
+#[tactic(auto, unfolding(crate::specs::Moves::past))]
+fn past(x: u16, q: u16, p: u16) -> u16
+    ensures { result ≡ past x q p }
 {
-    (i == m.actor) | ((p == m.actor) | changes(m.change, m.home, i, p))
+    if p == x { q } else { p }
 }
 
-// Record i of the bytes as after the move. A record that the move leaves is not written.
+// The parent that record i has after the move, if it stands; before it has p.
+#[tactic(auto, unfolding(crate::specs::Moves::parent_after, crate::specs::Moves::parent_changed))]
+fn parent_after(m: Move, i: u16, p: u16) -> Option<u16>
+    ensures { result ≡ parent_after m i p }
+{
+    if i == m.actor {
+        return None;
+    }
+    match m.change {
+        Change::To(dest) => Some(past(m.actor, m.home, if i == m.home { dest } else { p })),
+        Change::Opens(opened) if i == opened => None,
+        Change::Opens(opened) => Some(past(m.actor, m.home, past(opened, m.home, p))),
+    }
+}
+
+// Record i of the bytes as after the move: a child or the mover gets another parent, what goes is eight zeros, and nothing else is
+// written.
 fn remake(it: &mut [u8], m: Move, i: u16)
     requires some { 1 ≤ i }
     requires inside { 8 * i ≤ length it.old }
@@ -204,21 +190,67 @@ fn remake(it: &mut [u8], m: Move, i: u16)
     ensures { it.new ≡ with_record it.old i (remade m i (decode it.old i)) }
 {
     let p = records::parent_of(it, i);
-    if !touched(m, i, p) {
-        return;
+    match parent_after(m, i, p) {
+        Some(q) => records::put_parent(it, i, q),
+        None => records::put_record(it, i, records::gone()),
     }
-    let r = records::record_at(it, i);
-    records::put_record(it, i, remade(m, i, r));
 }
 
-// The move, in one pass over the records in place.
+// How many records, from i on up to k, stand before record n.
+fn short_of(n: u16, i: u16, k: u16) -> u16
+    requires { i ≤ k }
+    ensures { ShortOf n i k result }
+{
+    if (i < n) & (n <= k) { n - 1 } else { k }
+}
+
+// How many records there are, from i on up to k, before one whose parent is x or y.
+fn childless_to(it: &[u8], x: u16, y: u16, i: u16, k: u16) -> u16
+    requires ordered { i ≤ k }
+    requires inside { 8 * k ≤ length it.now }
+    ensures { ChildlessTo x y i k it.now result }
+{
+    for j in i..k {
+        let p = records::parent_of(it, j + 1);
+        if p == x || p == y {
+            return j;
+        }
+    }
+    k
+}
+
+// How many records there are, from i on up to k, before one that the move changes: it has a number or a parent of the move's.
+fn untouched_to(it: &[u8], m: Move, i: u16, k: u16) -> u16
+    requires ordered { i ≤ k }
+    requires inside { 8 * k ≤ length it.now }
+    ensures { UntouchedTo m i k it.now result }
+{
+    let named = short_of(m.actor, i, short_of(other(m.change, m.home), i, k));
+    childless_to(it, m.actor, opened(m.change, m.actor), i, named)
+}
+
+// The pass over the first k records, in the lent bytes. (No `for`: it goes on from record to record that is changed.)
+fn pass_to(it: &mut [u8], m: Move, k: u16)
+    requires valid { validity it.old ≡ pass }
+    requires inside { k ≤ count it.old }
+    ensures { it.new ≡ passed_to (remade m) k it.old }
+{
+    let mut i = 0;
+    while i < k {
+        i = untouched_to(it, m, i, k);
+        if i < k {
+            remake(it, m, i + 1);
+            i += 1;
+        }
+    }
+}
+
+// The move, by the pass over all records.
 fn apply(it: &mut [u8], m: Move)
     requires { validity it.old ≡ pass }
     ensures { it.new ≡ encode (applied m (records it.old)) }
 {
-    for i in 0..(it.len() / 8) as u16 {
-        remake(it, m, i + 1);
-    }
+    pass_to(it, m, (it.len() / 8) as u16);
 }
 
 // The step on an itinerary that is known to be valid.

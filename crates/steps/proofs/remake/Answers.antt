@@ -1,12 +1,12 @@
--- `steps::remake` meets its contract: a record that the move leaves is written as it stands.
-use Rattle.steps.specs.Moves.{touched_by, remade}
-use Rattle.steps.specs.Laws.{untouched}
+-- `steps::remake` meets its contract, by the parent that the record gets.
+use Rattle.std.proofs.Common.{◌∙◌, ap, sym}
 use Rattle.records.specs.Written.{with_record}
-use mathlib.Core.Path.{◌∙◌, ap, sym}
+use Rattle.steps.specs.Laws.{remade-gone, remade-to}
+use Rattle.steps.specs.Moves.{parent_after}
 use Rattle.steps.proofs.remake.Goals as goal
 
-pub returns-then-not-touched : goal.returns-then-not-touched
-returns-then-not-touched c = sym c.requires.whole ∙ ap (with_record _ _) (sym (untouched _ _ _ (ap (touched_by _ _) (sym c.parent_of-p.ensures) ∙ sym c.touched.ensures ∙ c.if-not-touched.true)))
+pub returns-in-Some : goal.returns-in-Some
+returns-in-Some c = c.put_parent.ensures ∙ ap (with_record _ _) (sym (remade-to _ _ _ (ap (parent_after _ _) (sym c.parent_of-p.ensures) ∙ sym c.parent_after.ensures ∙ c.in-Some.is)))
 
-pub returns : goal.returns
-returns c = c.put_record.ensures ∙ ap (with_record _ _) (c.remade.ensures ∙ ap (remade _ _) c.record_at-r.ensures)
+pub returns-in-None : goal.returns-in-None
+returns-in-None c = c.put_record.ensures ∙ ap (with_record _ _) (c.gone.ensures ∙ sym (remade-gone _ _ _ (ap (parent_after _ _) (sym c.parent_of-p.ensures) ∙ sym c.parent_after.ensures ∙ c.in-None.is)))
