@@ -79,6 +79,10 @@
  *  script     0 to 1,024 steps of 4 bytes: actor, partner, low byte first.
  *  answers    one byte for each step of the script.
  *  sheet      as long as the itinerary.
+ *  set        four itineraries, the members, that are joined. An unused place
+ *             is an itinerary of no records: length 0, and as always any
+ *             address but null.
+ *  joined     the joined itinerary, as long as the members together.
  *  list       pairs of actor and partner, each 4 bytes as a step of a script.
  *             The buffer may be longer than what hub_moves finds: n * n bytes
  *             suffice for n records, 1,048,576 (HUB_LONGEST_LIST) for any.
@@ -139,6 +143,15 @@
  * Then c's children go to c's parent, and c becomes gone. No other byte
  * changes. A boundary never stops a step.
  *
+ * JOINING
+ *
+ * Itineraries are joined by putting their records one after another and adding
+ * the earlier record count to each parent that is not 0. Ambients of all of
+ * them that stand in the environment then stand there in parallel. A table
+ * holds for the joined itinerary and a policy exactly when it holds for each
+ * member and that policy, an unused place included (for it every high label
+ * has to be in S, and nothing else).
+ *
  * VERDICT
  *
  * R is the least set with 0 in it, and with each label k from 1 to 63 where
@@ -161,7 +174,10 @@
  * what is passed without `const`, as said with the call, and nothing else.
  *
  * Causes are looked for in this order, as far as the call has them: 1; then
- * record by record 2, 3, 4, 5; then 6, 7, 8, 13, 14, 15, 9, 10, 11, 12.
+ * record by record 2, 3, 4, 5; then 6, 16, 7, 8, 13, 14, 15, 9, 10, 11, 12.
+ * Where itineraries are joined, 1 to 6 are looked for in the first member, then
+ * in the second, the third and the fourth; `record` is counted within the
+ * member, and which one it is isn't told.
  *
  * VERSION
  *
@@ -189,7 +205,7 @@ extern "C" {
 #endif
 
 /* The version of this header; see VERSION above. */
-#define HUB_VERSION 0x030000u
+#define HUB_VERSION 0x030100u
 
 /* Lengths in bytes, and how many records and steps there can be. */
 #define HUB_RECORD_LENGTH 8
@@ -235,7 +251,8 @@ enum {
     HUB_REFUSED_PARTNER = 12,
     HUB_REFUSED_SCRIPT = 13, /* or its answers */
     HUB_REFUSED_SHEET = 14,
-    HUB_REFUSED_LIST = 15    /* shorter than the list */
+    HUB_REFUSED_LIST = 15,   /* shorter than the list */
+    HUB_REFUSED_SET = 16     /* too many records, or the buffer's length */
 };
 
 typedef struct HubValidateResult {
@@ -282,6 +299,11 @@ typedef struct HubCheckResult {
     uint32_t number;
     uint32_t record;
 } HubCheckResult;
+
+typedef struct HubJoinResult {
+    uint32_t number;
+    uint32_t record;
+} HubJoinResult;
 
 typedef struct HubMakeResult {
     uint32_t number;
@@ -401,6 +423,24 @@ HubMovesResult hub_moves(const uint8_t *itinerary, size_t itinerary_length,
 HubCheckResult hub_check(const uint8_t *itinerary, size_t itinerary_length,
                          const uint8_t *policy, size_t policy_length,
                          const uint8_t *table, size_t table_length);
+
+/*
+ * Joins four itineraries and checks that a table holds for what they are
+ * joined: that hub_check takes the table for the joined itinerary.
+ * Done: the table is accepted, and `joined` has the joined itinerary.
+ * Refuses with 1 to 6 of the first member, of the second, of the third and of
+ * the fourth, each in full before the next; with 16 a set of more than 1,024
+ * records together, or a buffer that is not of the joined length, shorter or
+ * longer; then with 7, 8, 9. Refused for whatever cause, 9 too, the buffer is
+ * as it was.
+ */
+HubJoinResult hub_join(const uint8_t *first, size_t first_length,
+                       const uint8_t *second, size_t second_length,
+                       const uint8_t *third, size_t third_length,
+                       const uint8_t *fourth, size_t fourth_length,
+                       const uint8_t *policy, size_t policy_length,
+                       const uint8_t *table, size_t table_length,
+                       uint8_t *joined, size_t joined_length);
 
 /*
  * Makes the least table that holds for an itinerary and a policy. What the
@@ -572,6 +612,9 @@ static inline const char *hub_cause(uint32_t number)
         return "sheet not as long as the itinerary";
     case HUB_REFUSED_LIST:
         return "list buffer shorter than the list";
+    case HUB_REFUSED_SET:
+        return "over 1,024 records together, or a buffer not of the joined "
+               "length";
     default:
         return "unknown cause";
     }

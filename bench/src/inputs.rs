@@ -5,9 +5,10 @@ use birnsket::TABLE_LENGTH;
 use simulator::generate::clients;
 use simulator::generate::examples::{far_down, runs};
 use simulator::generate::policies;
+use simulator::generate::sets::Set;
 use simulator::generate::trees::{chain, tree, Links, Mix};
 use simulator::random::Random;
-use simulator::record::{Itinerary, Kind, Record, MOST_RECORDS};
+use simulator::record::{join, Itinerary, Kind, Record, MOST_RECORDS};
 
 /// What a row lends to the calls.
 #[derive(Clone, Debug, PartialEq, Eq)]
@@ -19,10 +20,17 @@ pub struct Lent {
     pub answers: Vec<u8>,
     pub sheet: Vec<u8>,
     pub list: Vec<u8>,
+    /// The members of a set beside the itinerary, the buffer for them all, and what they are joined.
+    pub others: [Vec<u8>; 3],
+    pub joined: Vec<u8>,
+    pub whole: Vec<u8>,
     /// A record number, or the actor of a step.
     pub number: u16,
     pub partner: u16,
 }
+
+/// Members, policy, table and buffer.
+pub type LentSet<'a> = ([&'a [u8]; 4], &'a [u8], &'a [u8], &'a mut [u8]);
 
 impl Lent {
     /// The itinerary with the usual policy and its least table.
@@ -37,10 +45,32 @@ impl Lent {
         Lent::bare(itinerary, policy, table)
     }
 
-    /// No script, and no record named.
+    /// A set with the usual policy and the least table of what it is joined.
+    pub fn joining(set: &Set) -> Lent {
+        let joined = join(set);
+        let [first, second, third, fourth] = set.each_ref().map(Itinerary::bytes);
+        let (others, whole) = ([second, third, fourth], joined.bytes());
+        Lent {
+            itinerary: first,
+            sheet: vec![],
+            others,
+            joined: vec![0; whole.len()],
+            whole,
+            ..Lent::of(&joined)
+        }
+    }
+
+    /// What a join is lent.
+    pub fn set(&mut self) -> LentSet<'_> {
+        let Lent { itinerary, others: [second, third, fourth], policy, table, joined, .. } = self;
+        ([itinerary, second, third, fourth], policy, table, joined)
+    }
+
+    /// No script, and no record named; the itinerary is the only one of its set.
     pub fn bare(itinerary: &[u8], policy: &[u8], table: Vec<u8>) -> Lent {
         let (itinerary, policy) = (itinerary.to_vec(), policy.to_vec());
         let sheet = vec![0; itinerary.len()];
+        let (joined, whole) = (sheet.clone(), itinerary.clone());
         Lent {
             itinerary,
             policy,
@@ -49,6 +79,9 @@ impl Lent {
             answers: vec![],
             sheet,
             list: vec![],
+            others: [const { Vec::new() }; 3],
+            joined,
+            whole,
             number: 0,
             partner: 0,
         }
@@ -229,7 +262,9 @@ pub fn carried() -> Lent {
     for level in 0..256 {
         let parent = if level == 0 { 0 } else { 2 * level - 1 };
         records.push(ambient(1 + level % 63, 1, parent));
-        records.push(order(Kind::Open, 64 + level % 64, 1, 2 * level + 1));
+        if level < 255 {
+            records.push(order(Kind::Open, 64 + level % 64, 1, 2 * level + 1));
+        }
     }
     records.extend((0..512).map(|place| ambient(1 + place % 63, 2, 511)));
     let steps = (1..=255).rev().map(|level| (2 * level, 2 * level + 1));
@@ -268,6 +303,34 @@ pub fn waiting() -> Lent {
     let mut itinerary = far_down(512, 512);
     itinerary.records[0] = order(Kind::Open, 64, 63, 0);
     Lent::of(&itinerary).with_list()
+}
+
+/// Sets of four with 256 records each.
+fn sets(itineraries: impl Iterator<Item = Itinerary>) -> Vec<Lent> {
+    let all: Vec<Itinerary> = itineraries.collect();
+    all.chunks_exact(4).map(|four| Lent::joining(&std::array::from_fn(|k| four[k].clone()))).collect()
+}
+
+fn trees_to_join(seed: u64, mix: Mix) -> impl Iterator<Item = Itinerary> {
+    let mut random = Random::new(seed);
+    (0..4 * TURN).map(move |_| tree(&mut random, &Mix { records: MOST_RECORDS / 4, ..mix }))
+}
+
+pub fn random_sets() -> Vec<Lent> {
+    sets(with_clients(trees_to_join(4, wide()).collect()).into_iter())
+}
+
+pub fn dense_sets() -> Vec<Lent> {
+    sets(trees_to_join(5, Mix { names: 2, ..wide() }))
+}
+
+/// In each member 255 capabilities behind each other.
+pub fn deep_set() -> Lent {
+    set_of_chains(Links::Capabilities, false)
+}
+
+pub fn set_of_chains(links: Links, reversed: bool) -> Lent {
+    Lent::joining(&std::array::from_fn(|_| chain(MOST_RECORDS / 4, links, reversed)))
 }
 
 /// One of each kind for tables.

@@ -29,8 +29,11 @@ fn main() -> ExitCode {
             rows::print_file_order();
             println!();
             kept = rows::print_moves();
+            println!();
+            kept &= rows::print_joins();
         }
         ["moves"] => kept = rows::print_moves(),
+        ["joins"] => kept = rows::print_joins(),
         ["order"] => rows::print_file_order(),
         ["stack"] => kept = stack::print(),
         ["instructions"] => kept = instructions::print(),
@@ -44,6 +47,8 @@ fn main() -> ExitCode {
             println!();
             kept = rows::print_moves();
             println!();
+            kept &= rows::print_joins();
+            println!();
             kept &= stack::print();
             println!();
             kept &= instructions::print();
@@ -51,7 +56,7 @@ fn main() -> ExitCode {
             oracle::print(SEED, COUNT);
         }
         _ => {
-            eprintln!("usage: bench [time|order|moves|stack|instructions|clingo]");
+            eprintln!("usage: bench [time|order|moves|joins|stack|instructions|clingo]");
             return ExitCode::from(2);
         }
     }

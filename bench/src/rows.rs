@@ -65,6 +65,21 @@ fn check(name: &'static str, lent: &[Lent]) -> Row {
     )
 }
 
+fn join(name: &'static str, lent: &[Lent]) -> Row {
+    row(
+        name,
+        lent,
+        |l| {
+            let (members, policy, table, joined) = l.set();
+            birnsket::join(members, policy, table, joined)
+        },
+        |l| {
+            let (members, policy, table, joined) = l.set();
+            plain::join(members, policy, table, joined)
+        },
+    )
+}
+
 fn make(name: &'static str, lent: &[Lent]) -> Row {
     row(
         name,
@@ -202,8 +217,8 @@ pub fn print_file_order() {
     }
 }
 
-/// What is asked of moves on 1,024 records: at most that many times Rust, and at most that many times a loop that
-/// compares one byte of all pairs.
+/// What is asked of moves and joins: at most that many times Rust. And of moves on 1,024 records: at most that many times
+/// a loop that compares one byte of all pairs.
 const TIMES_RUST: f64 = 1.3;
 const TIMES_LOOP: f64 = 10.0;
 
@@ -242,6 +257,47 @@ pub fn print_moves() -> bool {
         println!(
             "| {} | {library} µs | {plain} µs | {:.2} | {other} µs | {:.2}{word} |",
             row.name, ratios.0, ratios.1
+        );
+        kept &= good;
+    }
+    kept
+}
+
+/// Each with the times of the library's join and of its check of the joined bytes, in turns.
+fn join_rows() -> Vec<(Row, f64, f64)> {
+    let inputs: [(&'static str, Vec<Lent>); 3] = [
+        ("join, random", inputs::random_sets()),
+        ("join, dense", inputs::dense_sets()),
+        ("join, deep", vec![inputs::deep_set()]),
+    ];
+    let measured = inputs.into_iter().map(|(name, lent)| {
+        let (library, check) = in_turns(
+            &lent,
+            |l| {
+                let (members, policy, table, joined) = l.set();
+                birnsket::join(members, policy, table, joined)
+            },
+            |l| birnsket::check(&l.whole, &l.policy, &l.table),
+        );
+        (join(name, &lent), library, check)
+    });
+    measured.collect()
+}
+
+/// Measures and prints the rows of joins, four members of 256 records each; says whether they are as asked.
+pub fn print_joins() -> bool {
+    println!("| call and input | library | Rust | ratio | check of the joined bytes | ratio |");
+    println!("|---|---:|---:|---:|---:|---:|");
+    let mut kept = true;
+    for (row, again, check) in join_rows() {
+        let [library, plain, other] = [row.library, row.plain, check].map(|time| short(time / 1000.0));
+        let good = row.ratio() <= TIMES_RUST;
+        let word = if good { "" } else { ", TOO MUCH" };
+        println!(
+            "| {} | {library} µs | {plain} µs | {:.2}{word} | {other} µs | {:.2} |",
+            row.name,
+            row.ratio(),
+            again / check
         );
         kept &= good;
     }

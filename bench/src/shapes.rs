@@ -138,6 +138,42 @@ pub fn all() -> Vec<Shape> {
         let rest = "no room for a list".to_string();
         shapes.push(Shape { itinerary: name, rest, lent: bare });
     }
+    shapes.extend(sets().into_iter().flat_map(|(name, lent)| with_tables(name, &lent)));
+    shapes
+}
+
+/// Four members of 256 records each: chains in both orders, the last one a ring, and the benchmark's.
+fn sets() -> Vec<(String, Lent)> {
+    let mut all = Vec::new();
+    for reversed in [true, false] {
+        let order = if reversed { "reversed" } else { "in file order" };
+        for (what, links) in LINKS {
+            all.push((format!("four chains of {what}, {order}"), inputs::set_of_chains(links, reversed)));
+        }
+        let mut ring = inputs::set_of_chains(Links::Ambients, reversed);
+        let (top, deepest): (usize, u16) = if reversed { (256, 1) } else { (1, 256) };
+        ring.others[2][8 * top - 4..8 * top - 2].copy_from_slice(&deepest.to_le_bytes());
+        all.push((format!("three chains and a ring, {order}"), ring));
+    }
+    for (name, several) in [("random", inputs::random_sets()), ("dense", inputs::dense_sets())] {
+        all.extend(several.into_iter().next().map(|lent| (format!("{name} set"), lent)));
+    }
+    all
+}
+
+/// A set under each policy, with each table that is made of the joined bytes.
+fn with_tables(name: String, lent: &Lent) -> Vec<Shape> {
+    let mut shapes = Vec::new();
+    for (policy_name, policy) in policies() {
+        for (table_name, table) in tables_for(&lent.whole, &policy) {
+            let lent = Lent { policy: policy.clone(), table, ..lent.clone() };
+            shapes.push(Shape {
+                itinerary: name.clone(),
+                rest: format!("{policy_name}, {table_name}"),
+                lent,
+            });
+        }
+    }
     shapes
 }
 

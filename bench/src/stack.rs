@@ -45,7 +45,7 @@ fn depth(lent: &Lent, call: fn(&mut Lent) -> bool) -> usize {
 
 type Measured = (&'static str, fn(&mut Lent) -> bool);
 
-const CALLS: [Measured; 12] = [
+const CALLS: [Measured; 13] = [
     ("validate", |l| birnsket::validate(&l.itinerary).is_ok()),
     ("climb", |l| birnsket::climb(&l.itinerary, &l.policy, l.number).is_ok()),
     ("sheet", |l| birnsket::sheet(&l.itinerary, &l.table, &mut l.sheet).is_ok()),
@@ -53,6 +53,10 @@ const CALLS: [Measured; 12] = [
     ("moves", |l| birnsket::moves(&l.itinerary, &mut l.list).is_ok()),
     ("run", |l| birnsket::run(&mut l.itinerary, &l.script, &mut l.answers).is_ok()),
     ("check", |l| birnsket::check(&l.itinerary, &l.policy, &l.table).is_ok()),
+    ("join", |l| {
+        let (members, policy, table, joined) = l.set();
+        birnsket::join(members, policy, table, joined).is_ok()
+    }),
     ("make", |l| birnsket::make(&l.itinerary, &l.policy, &mut l.table).is_ok()),
     ("verdict", |l| birnsket::verdict(&l.itinerary, &l.policy, &l.table).is_ok()),
     ("exposed", |l| birnsket::exposed(&l.itinerary, &l.policy, &l.table).is_ok()),

@@ -1,4 +1,4 @@
-//! The seven buffers of the calls.
+//! The eleven buffers of the calls.
 
 /// What is lent to a call; a call uses some of them.
 #[derive(Clone, Debug, Default, PartialEq, Eq)]
@@ -10,6 +10,10 @@ pub struct Buffers {
     pub answers: Vec<u8>,
     pub sheet: Vec<u8>,
     pub list: Vec<u8>,
+    pub second: Vec<u8>,
+    pub third: Vec<u8>,
+    pub fourth: Vec<u8>,
+    pub joined: Vec<u8>,
 }
 
 #[derive(Clone, Copy, Debug, PartialEq, Eq, PartialOrd, Ord)]
@@ -21,10 +25,31 @@ pub enum Buffer {
     Answers,
     Sheet,
     List,
+    Second,
+    Third,
+    Fourth,
+    Joined,
 }
 
+/// The four that are joined, in their order.
+pub const MEMBERS: [Buffer; 4] = [Buffer::Itinerary, Buffer::Second, Buffer::Third, Buffer::Fourth];
+
+const NAMES: [&str; 11] = [
+    "itinerary",
+    "policy",
+    "table",
+    "script",
+    "answers",
+    "sheet",
+    "list",
+    "second",
+    "third",
+    "fourth",
+    "joined",
+];
+
 impl Buffer {
-    pub const ALL: [Buffer; 7] = [
+    pub const ALL: [Buffer; 11] = [
         Buffer::Itinerary,
         Buffer::Policy,
         Buffer::Table,
@@ -32,10 +57,14 @@ impl Buffer {
         Buffer::Answers,
         Buffer::Sheet,
         Buffer::List,
+        Buffer::Second,
+        Buffer::Third,
+        Buffer::Fourth,
+        Buffer::Joined,
     ];
 
     pub fn name(self) -> &'static str {
-        ["itinerary", "policy", "table", "script", "answers", "sheet", "list"][self as usize]
+        NAMES[self as usize]
     }
 
     pub fn named(name: &str) -> Option<Buffer> {
@@ -44,7 +73,7 @@ impl Buffer {
 
     /// The greatest length that a call may take it with; of the list, which may be longer, the greatest that is written.
     pub fn limit(self) -> usize {
-        [8192, 64, 1544, 4096, 1024, 8192, 1 << 20][self as usize]
+        [8192, 64, 1544, 4096, 1024, 8192, 1 << 20, 8192, 8192, 8192, 8192][self as usize]
     }
 }
 
@@ -58,6 +87,10 @@ impl Buffers {
             Buffer::Answers => &self.answers,
             Buffer::Sheet => &self.sheet,
             Buffer::List => &self.list,
+            Buffer::Second => &self.second,
+            Buffer::Third => &self.third,
+            Buffer::Fourth => &self.fourth,
+            Buffer::Joined => &self.joined,
         }
     }
 
@@ -70,7 +103,15 @@ impl Buffers {
             Buffer::Answers => &mut self.answers,
             Buffer::Sheet => &mut self.sheet,
             Buffer::List => &mut self.list,
+            Buffer::Second => &mut self.second,
+            Buffer::Third => &mut self.third,
+            Buffer::Fourth => &mut self.fourth,
+            Buffer::Joined => &mut self.joined,
         }
+    }
+
+    pub fn members(&self) -> [&[u8]; 4] {
+        MEMBERS.map(|member| &self.get(member)[..])
     }
 }
 

@@ -14,6 +14,7 @@ pub enum Call {
     Moves,
     Run,
     Check,
+    Join,
     Make,
     Verdict,
     Exposed,
@@ -31,6 +32,7 @@ impl Call {
             Call::Moves => "moves",
             Call::Run => "run",
             Call::Check => "check",
+            Call::Join => "join",
             Call::Make => "make",
             Call::Verdict => "verdict",
             Call::Exposed => "exposed",
@@ -54,6 +56,15 @@ impl Call {
             Call::Check | Call::Verdict | Call::Exposed => {
                 &[(Itinerary, false), (Policy, false), (Table, false)]
             }
+            Call::Join => &[
+                (Itinerary, false),
+                (Second, false),
+                (Third, false),
+                (Fourth, false),
+                (Policy, false),
+                (Table, false),
+                (Joined, true),
+            ],
             Call::Make => &[(Itinerary, false), (Policy, false), (Table, true)],
             Call::Row(_) => &[(Table, false)],
             Call::Screen => &[(Itinerary, true), (Policy, false), (Script, false), (Answers, true)],
@@ -81,7 +92,8 @@ fn answer(fields: &[u32]) -> Answer {
 
 /// The simulator's call.
 pub fn simulate(call: Call, lent: &mut Buffers) -> Answer {
-    let Buffers { itinerary, policy, table, script, answers, sheet, list } = lent;
+    let Buffers { itinerary, policy, table, script, answers, sheet, list, second, third, fourth, joined } =
+        lent;
     let result = match call {
         Call::Validate => simulator::validate(itinerary),
         Call::Climb(number) => simulator::climb(itinerary, policy, number),
@@ -90,6 +102,7 @@ pub fn simulate(call: Call, lent: &mut Buffers) -> Answer {
         Call::Moves => simulator::moves(itinerary, list),
         Call::Run => simulator::run(itinerary, script, answers),
         Call::Check => simulator::check(itinerary, policy, table),
+        Call::Join => simulator::join([itinerary, second, third, fourth], policy, table, joined),
         Call::Make => simulator::maker(itinerary, policy, table),
         Call::Verdict => simulator::verdict(itinerary, policy, table),
         Call::Exposed => simulator::exposed(itinerary, policy, table),
@@ -109,29 +122,16 @@ pub fn simulate(call: Call, lent: &mut Buffers) -> Answer {
 /// named after number and record.
 macro_rules! enter {
     ($entry:ident($($buffer:expr),+ $(; $($number:expr),+)?) -> $($field:ident),*) => {{
-        let result = enter!(@ $entry, [$($buffer),+], [$($($number),+)?]);
+        let result = unsafe { raw::$entry($($buffer.start, $buffer.length),+ $(, $($number),+)?) };
         answer(&[result.number, result.record, $(result.$field),*])
     }};
-    (@ $entry:ident, [$a:expr], [$($n:expr),*]) => {
-        unsafe { raw::$entry($a.start, $a.length, $($n),*) }
-    };
-    (@ $entry:ident, [$a:expr, $b:expr], [$($n:expr),*]) => {
-        unsafe { raw::$entry($a.start, $a.length, $b.start, $b.length, $($n),*) }
-    };
-    (@ $entry:ident, [$a:expr, $b:expr, $c:expr], []) => {
-        unsafe { raw::$entry($a.start, $a.length, $b.start, $b.length, $c.start, $c.length) }
-    };
-    (@ $entry:ident, [$a:expr, $b:expr, $c:expr, $d:expr], []) => {
-        unsafe {
-            raw::$entry($a.start, $a.length, $b.start, $b.length, $c.start, $c.length, $d.start, $d.length)
-        }
-    };
 }
 
 /// The library's entry. The rooms are apart and live through the call, and only buffers
 /// that the call doesn't write overlap, so that the caller's duties are kept.
 pub fn enter(call: Call, lent: &mut Rooms) -> Answer {
-    let [it, policy, table, script, answers, sheet, list] = Buffer::ALL.map(|buffer| lent.part(buffer));
+    let [it, policy, table, script, answers, sheet, list, second, third, fourth, joined] =
+        Buffer::ALL.map(|buffer| lent.part(buffer));
     match call {
         Call::Validate => enter!(hub_validate(it) -> records),
         Call::Climb(number) => enter!(hub_climb(it, policy; number) -> label, boundary),
@@ -140,6 +140,7 @@ pub fn enter(call: Call, lent: &mut Rooms) -> Answer {
         Call::Moves => enter!(hub_moves(it, list) -> done, no_capability, inactive, unfit),
         Call::Run => enter!(hub_run(it, script, answers) -> ins, outs, opens),
         Call::Check => enter!(hub_check(it, policy, table) ->),
+        Call::Join => enter!(hub_join(it, second, third, fourth, policy, table, joined) ->),
         Call::Make => enter!(hub_make(it, policy, table) -> bits),
         Call::Verdict => enter!(hub_verdict(it, policy, table) -> verdict, label),
         Call::Exposed => enter!(hub_exposed(it, policy, table) -> exposed),
@@ -151,7 +152,8 @@ pub fn enter(call: Call, lent: &mut Rooms) -> Answer {
 
 /// The same through the safe wrapper. Each slice is made for the one call.
 pub fn enter_safely(call: Call, lent: &mut Rooms) -> Answer {
-    let [it, policy, table, script, answers, sheet, list] = Buffer::ALL.map(|buffer| lent.part(buffer));
+    let [it, policy, table, script, answers, sheet, list, second, third, fourth, joined] =
+        Buffer::ALL.map(|buffer| lent.part(buffer));
     let done = match call {
         Call::Validate => birnsket::validate(unsafe { it.shared() }).map(|count| vec![count]),
         Call::Climb(number) => unsafe { birnsket::climb(it.shared(), policy.shared(), number) }
@@ -166,6 +168,11 @@ pub fn enter_safely(call: Call, lent: &mut Rooms) -> Answer {
             .map(|c| vec![c.ins, c.outs, c.opens]),
         Call::Check => {
             unsafe { birnsket::check(it.shared(), policy.shared(), table.shared()) }.map(|()| vec![])
+        }
+        Call::Join => {
+            let members = [it, second, third, fourth].map(|member| unsafe { member.shared() });
+            unsafe { birnsket::join(members, policy.shared(), table.shared(), joined.unique()) }
+                .map(|()| vec![])
         }
         Call::Make => {
             unsafe { birnsket::make(it.shared(), policy.shared(), table.unique()) }.map(|bits| vec![bits])

@@ -6,6 +6,7 @@ use crate::families::Family;
 use crate::overlaps;
 use crate::rings;
 use crate::rooms::MOST;
+use crate::sets;
 use simulator::generate::clients;
 use simulator::generate::damage::{damage, spoil_client};
 use simulator::generate::examples;
@@ -46,6 +47,7 @@ fn draw_bench(random: &mut Random, family: Family) -> (Itinerary, Policy) {
         Family::Full => of_mix(random, Mix::full),
         Family::Crowded => of_mix(random, Mix::crowded),
         Family::Longest | Family::Long(Buffer::List) => half_opens(random),
+        Family::FullSet => sets::first_of_full(random),
         Family::Chain => draw_chain(random),
         Family::Empty => Itinerary { records: vec![] },
         Family::Ring => rings::some_ring(random),
@@ -114,7 +116,7 @@ fn spoil(random: &mut Random, bytes: &mut Vec<u8>) {
 
 /// A client that is refused, on a record that stands or on a new gone one; now and then with another fault of 3 to 5,
 /// in that record or elsewhere.
-fn bad_client(random: &mut Random, bytes: &mut Vec<u8>) {
+pub fn bad_client(random: &mut Random, bytes: &mut Vec<u8>) {
     if !random.chance(70) || !spoil_client(random, bytes, false) {
         bytes.extend([0; RECORD_LENGTH]);
         spoil_client(random, bytes, true);
@@ -213,7 +215,21 @@ impl Case {
         }
         let sheet = vec![random.byte(); bytes.len()];
         let list = vec![random.byte(); random.below(40)];
-        let mut buffers = Buffers { itinerary: bytes, policy, table, script, answers, sheet, list };
+        let [second, third, fourth] = sets::others(random, family, &relabel, bytes.len() / RECORD_LENGTH);
+        let joined = vec![random.byte(); bytes.len() + second.len() + third.len() + fourth.len()];
+        let mut buffers = Buffers {
+            itinerary: bytes,
+            policy,
+            table,
+            script,
+            answers,
+            sheet,
+            list,
+            second,
+            third,
+            fourth,
+            joined,
+        };
         if let Family::Long(buffer) = family {
             lengthen(random, buffer, &mut buffers);
         }
@@ -233,6 +249,23 @@ impl Case {
         if let Some(room) = draw_room(random, needed) {
             self.buffers.list = (0..room).map(|_| random.byte()).collect();
         }
+    }
+
+    /// Lends a buffer of about the joined length, and most of the time a table for the set; and each member at another
+    /// place, that many places on. What is to be too long stays so, and what overlaps stays where it is.
+    pub fn fit_set(&mut self, random: &mut Random, overlap: Option<Overlap>) -> usize {
+        let fixed = overlap.is_some() || matches!(self.family, Family::Long(_)) || random.chance(60);
+        let places = if fixed { 0 } else { random.between(1, 3) };
+        sets::rotate(&mut self.buffers, places);
+        if self.family != Family::Long(Buffer::Joined) {
+            sets::fit_joined(random, &mut self.buffers);
+        }
+        let lies_apart =
+            overlap.is_none_or(|overlap| ![overlap.inner, overlap.outer].contains(&Buffer::Table));
+        if lies_apart && random.chance(70) {
+            sets::fit_table(random, &mut self.buffers);
+        }
+        places
     }
 
     /// How this call's buffers overlap; the inner one then has its part of the outer one.
@@ -273,6 +306,10 @@ impl Case {
                 let at = random.below(buffers.itinerary.len());
                 buffers.itinerary[at] = random.below(8) as u8;
             }
+            24 => {
+                let buffer = random.pick(&[Buffer::Second, Buffer::Third, Buffer::Fourth]);
+                *buffers.get_mut(buffer) = sets::member(random, self.family, &self.relabel);
+            }
             _ => {}
         }
     }
@@ -290,7 +327,7 @@ impl Case {
     }
 
     fn any_call(&self, random: &mut Random) -> Call {
-        match random.below(120) {
+        match random.below(132) {
             0..=5 => Call::Validate,
             6..=12 => Call::Climb(self.any_number(random)),
             13..=22 => Call::Sheet,
@@ -302,6 +339,7 @@ impl Case {
             89..=98 => Call::Exposed,
             99..=108 => Call::Moves,
             109..=113 => Call::Row(if random.chance(80) { random.below(66) as u8 } else { random.byte() }),
+            114..=125 => Call::Join,
             _ => Call::Screen,
         }
     }

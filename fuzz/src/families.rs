@@ -18,6 +18,9 @@ pub enum Family {
     /// Drawn for its moves: many, and half of 1,024 records with each of the other half.
     Crowded,
     Longest,
+    /// Drawn for the join: four good members and a table for all of them; the same of 1,024 records or a few more.
+    Set,
+    FullSet,
     Empty,
     Ring,
     FullRing,
@@ -33,12 +36,15 @@ pub enum Family {
     ItineraryInTable,
     PolicyInScript,
     ScriptInPolicy,
+    /// The second member is the first, or a part of it; the policy is a part of the fourth.
+    MemberInMember,
+    PolicyInMember,
 }
 
 use Family::*;
 
 /// Each with how many of 4,000 cases are of it; what is left is small.
-pub const FAMILIES: [(Family, usize); 27] = [
+pub const FAMILIES: [(Family, usize); 35] = [
     (Small, 0),
     (Medium, 60),
     (Large, 8),
@@ -47,6 +53,8 @@ pub const FAMILIES: [(Family, usize); 27] = [
     (Hinted, 108),
     (Crowded, 200),
     (Longest, 2),
+    (Set, 200),
+    (FullSet, 6),
     (Empty, 20),
     (Ring, 6),
     (FullRing, 4),
@@ -60,12 +68,18 @@ pub const FAMILIES: [(Family, usize); 27] = [
     (Long(Buffer::Answers), 6),
     (Long(Buffer::Sheet), 6),
     (Long(Buffer::List), 2),
+    (Long(Buffer::Second), 4),
+    (Long(Buffer::Third), 4),
+    (Long(Buffer::Fourth), 4),
+    (Long(Buffer::Joined), 4),
     (PolicyInTable, 20),
     (PolicyInItinerary, 20),
     (TableInItinerary, 10),
     (ItineraryInTable, 20),
     (PolicyInScript, 20),
     (ScriptInPolicy, 20),
+    (MemberInMember, 20),
+    (PolicyInMember, 20),
 ];
 
 impl Family {
@@ -90,6 +104,8 @@ impl Family {
             Hinted => "drawn for the verdict".to_string(),
             Crowded => "drawn for the moves".to_string(),
             Longest => "the longest list of moves".to_string(),
+            Set => "drawn for the join".to_string(),
+            FullSet => "1,024 records joined, or more".to_string(),
             Long(Buffer::List) => "list longer than any needed".to_string(),
             Empty => "empty itinerary".to_string(),
             Ring => "ring of 1 to 1,023".to_string(),
@@ -104,6 +120,8 @@ impl Family {
             ItineraryInTable => "itinerary in table".to_string(),
             PolicyInScript => "policy in script".to_string(),
             ScriptInPolicy => "script in policy".to_string(),
+            MemberInMember => "member in member".to_string(),
+            PolicyInMember => "policy in member".to_string(),
         }
     }
 
@@ -118,8 +136,9 @@ impl Family {
         match self {
             Long(buffer) => call.is_lent(buffer) && lent.get(buffer).len() > buffer.limit(),
             PolicyInTable | PolicyInItinerary | TableInItinerary | ItineraryInTable | PolicyInScript
-            | ScriptInPolicy => overlap.is_some(),
+            | ScriptInPolicy | MemberInMember | PolicyInMember => overlap.is_some(),
             Crowded | Longest => call == Call::Moves,
+            Set | FullSet => call == Call::Join,
             _ => call.is_lent(Buffer::Itinerary),
         }
     }

@@ -9,4 +9,5 @@ pub mod options;
 pub mod overlaps;
 pub mod rings;
 pub mod rooms;
+pub mod sets;
 pub mod tally;

@@ -1,11 +1,12 @@
 //! Differential fuzzing: every call of the library against the simulator.
 
-use fuzz::buffers::{hex, Buffer, Buffers, Overlap};
+use fuzz::buffers::{hex, Buffer, Buffers, Overlap, MEMBERS};
 use fuzz::calls::{enter, enter_safely, simulate, Answer, Call};
 use fuzz::draw::Case;
 use fuzz::families::{Family, FAMILIES};
 use fuzz::options::{Options, USAGE};
 use fuzz::rooms::Rooms;
+use fuzz::sets;
 use fuzz::tally::Tally;
 use simulator::random::Random;
 use std::process::ExitCode;
@@ -67,6 +68,7 @@ impl Fuzzer {
                 case.fit_list(&mut self.random);
             }
             let overlap = case.overlapping(call);
+            let places = if call == Call::Join { case.fit_set(&mut self.random, overlap) } else { 0 };
             let seen = case.family.is_seen_by(call, &case.buffers, overlap);
             if self.options.trace {
                 eprintln!("{}: {call:?}, {overlap:?}", case.family.name());
@@ -76,6 +78,7 @@ impl Fuzzer {
             if seen {
                 self.tally.add_seen(case.family, &answer);
             }
+            sets::rotate(&mut case.buffers, MEMBERS.len() - places);
         }
         Ok(())
     }

@@ -86,6 +86,11 @@ fn policy_inside(random: &mut Random, family: Family, buffers: &mut Buffers) -> 
             buffers.itinerary.resize(length, 0);
             Buffer::Itinerary
         }
+        Family::PolicyInMember => {
+            let length = buffers.fourth.len().next_multiple_of(8) + 8 * random.between(8, 12);
+            buffers.fourth.resize(length, 0);
+            Buffer::Fourth
+        }
         _ => {
             let steps = random.between(16, 40);
             (buffers.script, buffers.answers) = (classes(random, 4 * steps), vec![random.byte(); steps]);
@@ -99,8 +104,17 @@ fn policy_inside(random: &mut Random, family: Family, buffers: &mut Buffers) -> 
 /// Changes the buffers to those of the family, and says how they overlap.
 pub fn overlap(random: &mut Random, family: Family, buffers: &mut Buffers) -> Option<Overlap> {
     match family {
-        Family::PolicyInTable | Family::PolicyInItinerary | Family::PolicyInScript => {
-            policy_inside(random, family, buffers)
+        Family::PolicyInTable
+        | Family::PolicyInItinerary
+        | Family::PolicyInScript
+        | Family::PolicyInMember => policy_inside(random, family, buffers),
+        Family::MemberInMember => {
+            // The whole first member, or records of it.
+            let count = buffers.itinerary.len() / 8;
+            let first = if random.chance(80) { 0 } else { random.below(count + 1) };
+            let length =
+                if first == 0 { buffers.itinerary.len() } else { 8 * random.below(count - first + 1) };
+            Some(Overlap { inner: Buffer::Second, outer: Buffer::Itinerary, at: 8 * first, length })
         }
         Family::TableInItinerary => {
             buffers.itinerary = like_table(random).bytes();

@@ -59,6 +59,8 @@ struct Room {
     memory: Memory,
     start: usize,
     length: usize,
+    /// The length that a call is told.
+    told: usize,
     guard: u8,
     /// The byte that a spoilt room lacks.
     lacks: Option<Side>,
@@ -71,7 +73,7 @@ impl Room {
             false => Memory::Pages(Pages::new(GUARD + SHIFTS + MOST + GUARD)),
         };
         let lacks = lending.spoilt.filter(|(spoilt, _)| *spoilt == buffer).map(|(_, side)| side);
-        Room { memory, start: 0, length: 0, guard: 0, lacks }
+        Room { memory, start: 0, length: 0, told: 0, guard: 0, lacks }
     }
 
     /// What of the content the room has.
@@ -84,6 +86,7 @@ impl Room {
     }
 
     fn load(&mut self, content: &[u8], place: Place, guard: u8) {
+        self.told = content.len();
         let content = self.kept(content);
         (self.length, self.guard) = (content.len(), guard);
         if let Memory::Block(block) = &mut self.memory {
@@ -112,13 +115,12 @@ impl Room {
         &self.memory.bytes()[self.start..self.start + self.length]
     }
 
-    /// Pointer and length as if the room lacked nothing.
+    /// Pointer and length as if the room lacked nothing; no bytes lack none.
     fn part(&mut self) -> Part {
         let start = self.memory.bytes_mut()[self.start..].as_mut_ptr();
         match self.lacks {
-            None => Part { start, length: self.length },
-            Some(Side::Start) => Part { start: start.wrapping_sub(1), length: self.length + 1 },
-            Some(Side::End) => Part { start, length: self.length + 1 },
+            Some(Side::Start) if self.told > 0 => Part { start: start.wrapping_sub(1), length: self.told },
+            _ => Part { start, length: self.told },
         }
     }
 
@@ -130,9 +132,9 @@ impl Room {
     }
 }
 
-/// The rooms of all seven buffers.
+/// The rooms of all buffers.
 pub struct Rooms {
-    rooms: [Room; 7],
+    rooms: [Room; 11],
     overlap: Option<Overlap>,
 }
 

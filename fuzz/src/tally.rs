@@ -3,14 +3,14 @@
 use crate::buffers::{Buffer, Buffers};
 use crate::calls::{Answer, Call};
 use crate::families::{Family, FAMILIES};
-use simulator::record::LAST_CLIENT;
+use simulator::record::{Itinerary, LAST_CLIENT, MOST_RECORDS};
 use std::collections::BTreeMap;
 
 /// Calls after which each answer of each call is met by far.
 const ENOUGH: u64 = 200_000;
 
 /// The numbers that a call can answer beside 0 and, but for the row, 1 to 6.
-const OWN_NUMBERS: [(&str, &[u32]); 12] = [
+const OWN_NUMBERS: [(&str, &[u32]); 13] = [
     ("validate", &[]),
     ("climb", &[7]),
     ("sheet", &[8, 14]),
@@ -18,6 +18,7 @@ const OWN_NUMBERS: [(&str, &[u32]); 12] = [
     ("moves", &[15]),
     ("run", &[13]),
     ("check", &[7, 8, 9]),
+    ("join", &[7, 8, 9, 16]),
     ("make", &[7, 8]),
     ("verdict", &[7, 8, 9]),
     ("exposed", &[7, 8, 9]),
@@ -34,6 +35,55 @@ const LISTS: [&str; 5] = [
     "with bytes behind it",
     "as long as any",
 ];
+
+/// What a set can be, by the number it gets.
+const SETS: [(&str, u32); 11] = [
+    ("of four members", 0),
+    ("of one member", 0),
+    ("of no records", 0),
+    ("of 1,024 records", 0),
+    ("with a parent moved over 255", 0),
+    ("of too many records", 16),
+    ("in a buffer a byte short", 16),
+    ("in a buffer a byte long", 16),
+    ("in a buffer a record short", 16),
+    ("in a buffer a record long", 16),
+    ("held for the first member", 9),
+];
+
+/// Which of those a call's set is, by the buffers as they are after it.
+fn set_is(lent: &Buffers, number: u32) -> [bool; 11] {
+    let members = lent.members();
+    let (right, room) = (members.concat().len(), lent.joined.len());
+    let used = members.iter().filter(|member| !member.is_empty()).count();
+    let fits = right <= 8 * MOST_RECORDS;
+    // The high byte of a parent.
+    let highs = |records: &[u8]| records.chunks_exact(8).map(|record| record[5]).collect::<Vec<u8>>();
+    let moved = number == 0 && highs(&lent.joined) != highs(&members.concat());
+    let held = number == 9 && simulator::check(members[0], &lent.policy, &lent.table).number == 0;
+    let is = [
+        used == 4,
+        used == 1,
+        right == 0,
+        right == 8 * MOST_RECORDS,
+        moved,
+        !fits,
+        fits && room + 1 == right,
+        fits && room == right + 1,
+        fits && room + 8 == right,
+        fits && room == right + 8,
+        held,
+    ];
+    std::array::from_fn(|place| is[place] && SETS[place].1 == number)
+}
+
+/// The first member that is refused, counted from 1, and its bytes; of another call or set the itinerary.
+fn refused_member(call: Call, lent: &Buffers) -> (usize, &[u8]) {
+    let refused = |(_, member): &(usize, &[u8])| Itinerary::read(member).is_err();
+    let members = lent.members().into_iter().enumerate();
+    let found = members.filter(|_| call == Call::Join).find(refused);
+    found.map_or((0, &lent.itinerary), |(place, member)| (place + 1, member))
+}
 
 /// That name, if a call has it.
 pub fn call_named(name: &str) -> Option<&'static str> {
@@ -62,6 +112,9 @@ pub struct Tally {
     verdicts: BTreeMap<(&'static str, u32), u64>,
     exposed: [u64; 2],
     lists: [u64; 5],
+    sets: [u64; 11],
+    /// Of members refused with a number, the first, second, third and fourth.
+    members: BTreeMap<(u32, usize), u64>,
     /// Refused with 2 for nothing but a client.
     clients: BTreeMap<&'static str, u64>,
 }
@@ -82,8 +135,15 @@ impl Tally {
     pub fn add(&mut self, call: Call, answer: &Answer, after: &Buffers) {
         self.calls += 1;
         *self.numbers.entry((call.name(), answer[0])).or_default() += 1;
-        if answer[0] == 2 && client_refused(&after.itinerary, answer[1]) {
+        let (member, bytes) = refused_member(call, after);
+        if answer[0] == 2 && client_refused(bytes, answer[1]) {
             *self.clients.entry(call.name()).or_default() += 1;
+        }
+        if member > 0 {
+            *self.members.entry((answer[0], member)).or_default() += 1;
+        } else if call == Call::Join {
+            let met = set_is(after, answer[0]);
+            self.sets.iter_mut().zip(met).for_each(|(count, met)| *count += u64::from(met));
         }
         if answer[0] != 0 {
             return;
@@ -151,6 +211,11 @@ impl Tally {
         missing.extend(absent.map(|(word, _)| format!("exposed {word}")));
         let absent = LISTS.iter().zip(self.lists).filter(|&(_, count)| count == 0);
         missing.extend(absent.map(|(word, _)| format!("list {word}")));
+        let absent = SETS.iter().zip(self.sets).filter(|&(_, count)| count == 0);
+        missing.extend(absent.map(|((word, _), _)| format!("set {word}")));
+        let members = (1..7).flat_map(|number| (1..5).map(move |member| (number, member)));
+        let absent = members.filter(|key| !self.members.contains_key(key));
+        missing.extend(absent.map(|(number, member)| format!("join {number} in member {member}")));
         let absent = [0, 10, 11, 12].into_iter().filter(|number| !self.steps.contains_key(number));
         missing.extend(absent.map(|number| format!("step {number} of a script")));
         missing
@@ -176,6 +241,12 @@ impl Tally {
         }
         for (word, count) in LISTS.iter().zip(self.lists) {
             println!("list {word} {count}");
+        }
+        for ((word, _), count) in SETS.iter().zip(self.sets) {
+            println!("set {word} {count}");
+        }
+        for ((number, member), count) in &self.members {
+            println!("join {number} in member {member} {count}");
         }
         for (number, count) in &self.steps {
             println!("step of a script {number} {count}");
@@ -232,6 +303,10 @@ mod tests {
             missing.contains(&"moves 15".to_string()) && missing.contains(&"list as long as any".to_string())
         );
         assert!(missing.contains(&"run 2 by a client".to_string()));
+        assert!(
+            missing.contains(&"join 16".to_string()) && missing.contains(&"set of no records".to_string())
+        );
+        assert!(missing.contains(&"join 6 in member 4".to_string()));
         assert!(missing.contains(&"exposed 9".to_string()) && missing.contains(&"exposed yes".to_string()));
         assert!(!missing.contains(&"validate 0".to_string()));
     }

@@ -4,7 +4,7 @@
 
 use crate::answer::{refuse, values, Outcome, Refusal};
 use crate::law::Law;
-use crate::record::{Itinerary, Kind};
+use crate::record::{self, Itinerary, Kind, MOST_RECORDS, RECORD_LENGTH};
 use crate::steps;
 use crate::table::{self, Policy, Table, BOUNDARY, LOW, ROW_LENGTH, TABLE_LENGTH};
 
@@ -108,6 +108,21 @@ pub fn run(law: Law, itinerary: &mut [u8], script: &[u8], answers: &mut [u8]) ->
 
 pub fn check(law: Law, itinerary: &[u8], policy: &[u8], table: &[u8]) -> Outcome {
     accept(law, itinerary, policy, table)?;
+    Ok(values(&[]))
+}
+
+/// Checks the joined itinerary, and writes it. Each member's 1 to 6 come first, with records counted in that member.
+pub fn join(law: Law, members: [&[u8]; 4], policy: &[u8], table: &[u8], joined: &mut [u8]) -> Outcome {
+    let mut read = Vec::new();
+    for member in members {
+        read.push(Itinerary::read(member)?);
+    }
+    let bytes = record::join(&read).bytes();
+    if bytes.len() > MOST_RECORDS * RECORD_LENGTH || joined.len() != bytes.len() {
+        return refuse(16);
+    }
+    accept(law, &bytes, policy, table)?;
+    joined.copy_from_slice(&bytes);
     Ok(values(&[]))
 }
 

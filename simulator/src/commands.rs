@@ -5,7 +5,7 @@
 use simulator::hub;
 use simulator::law::Law;
 use simulator::replay::{self, counts::Counts, player, Section, Size, SECTIONS};
-use simulator::secrecy::{files::faults, search::search, text, text::Stored, Case};
+use simulator::secrecy::{files::faults, pairs, search::search, sets, text, text::Stored, Case};
 use simulator::term;
 use std::fs;
 use std::path::Path;
@@ -13,11 +13,11 @@ use std::path::Path;
 type Result<T> = std::result::Result<T, String>;
 
 const USAGE: &str = "usage: simulator COMMAND
-  cases --seed N --out DIR [--calls itinerary|table|screen|moves] [--sample]
-  cases --seed N --check DIR [--calls itinerary|table|screen|moves] [--sample]
+  cases --seed N --out DIR [--calls itinerary|table|screen|moves|join] [--sample]
+  cases --seed N --check DIR [--calls itinerary|table|screen|moves|join] [--sample]
   play [--change NAME] FILE...
   reducts --seed N --count M
-  secrecy --seed N --count M
+  secrecy --seed N --count M [--joined]
   hunt --change NAME --seed N --count M [--out DIR]
   replay DIR
   hub DIR";
@@ -43,7 +43,7 @@ struct Options {
     words: Vec<String>,
 }
 
-const FLAGS: [&str; 1] = ["--sample"];
+const FLAGS: [&str; 2] = ["--sample", "--joined"];
 
 impl Options {
     fn read(arguments: &[String]) -> Result<Options> {
@@ -183,9 +183,10 @@ fn reducts(options: &Options) -> Result<bool> {
     Ok(sets.different == 0)
 }
 
-/// Under the document's law no counterexample may be found.
+/// Under the document's law no counterexample may be found, neither of one itinerary each nor of a joined set.
 fn secrecy(options: &Options) -> Result<bool> {
-    let (found, tally) = search(Law::Document, options.number("--seed")?, options.number("--count")?);
+    let draw = if options.get("--joined").is_some() { sets::draw } else { pairs::draw };
+    let (found, tally) = search(Law::Document, draw, options.number("--seed")?, options.number("--count")?);
     println!("{}", tally.line());
     if let Some(case) = &found {
         print!("{}", text::print(&stored(Law::Document, case)));
@@ -202,7 +203,7 @@ fn hunt(options: &Options) -> Result<bool> {
     if law == Law::Document {
         return Err("--change is missing".to_string());
     }
-    let (found, tally) = search(law, options.number("--seed")?, options.number("--count")?);
+    let (found, tally) = search(law, pairs::draw, options.number("--seed")?, options.number("--count")?);
     eprintln!("{}", tally.line());
     let Some(case) = found else { return Ok(false) };
     let text = text::print(&stored(law, &case));

@@ -55,6 +55,11 @@ pub fn check(itinerary: &[u8], policy: &[u8], table: &[u8]) -> Answer {
     calls::check(Law::Document, itinerary, policy, table).into()
 }
 
+/// Checks the table for the four joined, and writes the joined bytes; an unused place has no bytes.
+pub fn join(members: [&[u8]; 4], policy: &[u8], table: &[u8], joined: &mut [u8]) -> Answer {
+    calls::join(Law::Document, members, policy, table, joined).into()
+}
+
 /// Values: bits set. Writes the table.
 pub fn maker(itinerary: &[u8], policy: &[u8], table: &mut [u8]) -> Answer {
     calls::maker(Law::Document, itinerary, policy, table).into()

@@ -1,4 +1,4 @@
-//! Itinerary records: reading with refusals 1 to 6, climbing, writing.
+//! Itinerary records: reading with refusals 1 to 6, climbing, writing, joining.
 
 use crate::answer::{refuse, Refusal};
 
@@ -159,6 +159,20 @@ impl Itinerary {
         let nearest = self.upward(number).find(|&higher| self.is_ambient(higher));
         nearest.and_then(|ambient| self.get(ambient)).map_or(0, |record| record.label)
     }
+}
+
+/// Itineraries joined: their records one after another, with the earlier record count added to each parent that is
+/// not 0.
+pub fn join(itineraries: &[Itinerary]) -> Itinerary {
+    let mut records: Vec<Record> = Vec::new();
+    for itinerary in itineraries {
+        let earlier = records.len() as u16;
+        for record in &itinerary.records {
+            let parent = if record.parent == 0 { 0 } else { record.parent + earlier };
+            records.push(Record { parent, ..*record });
+        }
+    }
+    Itinerary { records }
 }
 
 /// The first of faults 2 to 5 that the record has, looking at nothing but bytes.

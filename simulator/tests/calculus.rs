@@ -2,7 +2,7 @@
 
 use simulator::law::Law;
 use simulator::record::{Itinerary, Kind, Record};
-use simulator::secrecy::search::search;
+use simulator::secrecy::{pairs, search::search};
 use simulator::term::{by_steps, compare, read, reducts};
 
 fn record(kind: Kind, label: u8, name: u8, parent: u16) -> Record {
@@ -51,7 +51,7 @@ fn steps_are_the_published_reductions() {
 
 #[test]
 fn no_counterexample_under_the_documents_law() {
-    let (found, tally) = search(Law::Document, 7, 30_000);
+    let (found, tally) = search(Law::Document, pairs::draw, 7, 30_000);
     assert!(found.is_none());
     assert!(tally.different > 500 && tally.by_clients > 300, "{}", tally.line());
     assert!(tally.shown_done > 300 && tally.hidden_done > 200, "{}", tally.line());

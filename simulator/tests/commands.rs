@@ -42,8 +42,12 @@ fn a_secrecy_run_without_a_pair_as_supposed_fails() {
 
 #[test]
 fn runs_that_compare_something_pass() {
-    for arguments in ["secrecy --seed 1 --count 300", "reducts --seed 1 --count 50", "replay counterexamples"]
-    {
+    for arguments in [
+        "secrecy --seed 1 --count 300",
+        "secrecy --seed 1 --count 300 --joined",
+        "reducts --seed 1 --count 50",
+        "replay counterexamples",
+    ] {
         assert!(simulator(arguments).status.success(), "{arguments}");
     }
 }

@@ -35,6 +35,7 @@ impl Refusal {
             13 => "script no multiple of 4 or over 4,096, or answers not one byte a step",
             14 => "sheet not as long as the itinerary",
             15 => "list buffer shorter than the list",
+            16 => "over 1,024 records together, or a buffer not of the joined length",
             _ => "unknown cause",
         }
     }

@@ -235,6 +235,52 @@ pub fn check(itinerary: &[u8], policy: &[u8], table: &[u8]) -> Result<(), Refusa
     done(result.number, result.record)
 }
 
+/// Joins four itineraries, an unused place being one of no bytes: their records one after
+/// another, with the earlier record count added to each parent that isn't 0. Writes them
+/// if the table holds for what they are joined.
+///
+/// Refuses with 1 to 6, as [`validate`], of the first member, then of the second, the
+/// third and the fourth, the record counted within its member; 16 (more than 1,024
+/// records together, or a buffer not of the joined length); 7, 8 and 9, as [`check`].
+///
+/// ```
+/// use birnsket::{join, make, Refusal, POLICY_LENGTH, TABLE_LENGTH};
+///
+/// let inner = [1, 1, 0, 0, 0, 0, 0, 0, 1, 2, 1, 0, 1, 0, 0, 0];
+/// let (policy, mut table) = ([0; POLICY_LENGTH], [0; TABLE_LENGTH]);
+/// make(&inner, &policy, &mut table)?;
+/// // The same itinerary twice; the second one's numbers come behind the first's.
+/// let mut joined = [7; 32];
+/// join([&inner, &[], &inner, &[]], &policy, &table, &mut joined)?;
+/// assert_eq!((&joined[..16], &joined[16..24]), (&inner[..], &inner[..8]));
+/// assert_eq!(joined[24..], [1, 2, 1, 0, 3, 0, 0, 0]);
+/// let refusal = Refusal { number: 16, record: 0 };
+/// assert_eq!(join([&inner, &[], &[], &[]], &policy, &table, &mut joined), Err(refusal));
+/// # Ok::<(), Refusal>(())
+/// ```
+pub fn join(members: [&[u8]; 4], policy: &[u8], table: &[u8], joined: &mut [u8]) -> Result<(), Refusal> {
+    let [first, second, third, fourth] = members;
+    let result = unsafe {
+        raw::hub_join(
+            first.as_ptr(),
+            first.len(),
+            second.as_ptr(),
+            second.len(),
+            third.as_ptr(),
+            third.len(),
+            fourth.as_ptr(),
+            fourth.len(),
+            policy.as_ptr(),
+            policy.len(),
+            table.as_ptr(),
+            table.len(),
+            joined.as_mut_ptr(),
+            joined.len(),
+        )
+    };
+    done(result.number, result.record)
+}
+
 /// Writes the least table that holds and returns how many of its bits are one. What
 /// the table had before makes no difference.
 ///

@@ -1,7 +1,7 @@
 //! The entries as the archive has them. What a caller owes is in include/birnsket.h.
 
 /// HUB_VERSION of the header that these declarations follow.
-pub const HUB_VERSION: u32 = 0x030000;
+pub const HUB_VERSION: u32 = 0x030100;
 
 /// Results: number and record 0 and the fields named where the call is done, else a refusal's number and record
 /// and zeros.
@@ -27,6 +27,7 @@ results! {
     HubRunResult { ins, outs, opens }
     HubMovesResult { done, no_capability, inactive, unfit }
     HubCheckResult {}
+    HubJoinResult {}
     HubMakeResult { bits }
     HubVerdictResult { verdict, label }
     HubExposedResult { exposed }
@@ -75,6 +76,22 @@ extern "C" {
         table: Bytes,
         table_len: usize,
     ) -> HubCheckResult;
+    pub fn hub_join(
+        first: Bytes,
+        first_len: usize,
+        second: Bytes,
+        second_len: usize,
+        third: Bytes,
+        third_len: usize,
+        fourth: Bytes,
+        fourth_len: usize,
+        policy: Bytes,
+        policy_len: usize,
+        table: Bytes,
+        table_len: usize,
+        joined: BytesMut,
+        joined_len: usize,
+    ) -> HubJoinResult;
     pub fn hub_make(
         it: Bytes,
         it_len: usize,

@@ -335,6 +335,95 @@ fn tables_and_policies_refused() {
     assert_eq!(sheet(&itinerary, &table, &mut [0; 16]), Err(refusal(8, 0)));
 }
 
+/// What the call makes of members that it takes, in a buffer of their length.
+fn joined(members: [&[u8]; 4], policy: &[u8], table: &[u8]) -> Result<Vec<u8>, Refusal> {
+    let mut joined = vec![7; members.concat().len()];
+    let done = join(members, policy, table, &mut joined);
+    assert!(done.is_ok() || joined.iter().all(|&byte| byte == 7));
+    done.map(|()| joined)
+}
+
+fn made(itinerary: &[u8], policy: &[u8]) -> Vec<u8> {
+    let mut table = vec![0; TABLE_LENGTH];
+    make(itinerary, policy, &mut table).unwrap();
+    table
+}
+
+#[test]
+fn example_a_joined_with_b() {
+    let (a, b, policy) = (bytes(&A), bytes(&B), usual());
+    let both = bytes(&[A[0], A[1], (1, 1, 0, 0), (1, 2, 1, 3), (3, 64, 0, 4)]);
+    let table = made(&b, &policy);
+    assert_eq!(joined([&a, &b, &[], &[]], &policy, &table).as_deref(), Ok(&both[..]));
+    assert_eq!(joined([&[], &a, &[], &b], &policy, &table).as_deref(), Ok(&both[..]));
+    assert_eq!((check(&both, &policy, &table), made(&both, &policy)), (Ok(()), table.clone()));
+    // A's table doesn't hold for B, wherever B is.
+    let table = made(&a, &policy);
+    for members in [[&a, &b, &a, &a], [&b, &a, &a, &a], [&a, &a, &a, &b]] {
+        assert_eq!(joined(members.map(|member| &member[..]), &policy, &table), Err(refusal(9, 0)));
+    }
+    assert_eq!(joined([&a; 4], &policy, &table).map(|joined| validate(&joined)), Ok(Ok(8)));
+}
+
+#[test]
+fn three_unused_places() {
+    let (b, policy) = (with_clients(&B, &[17, 999, 256]), usual());
+    let table = made(&b, &policy);
+    for place in 0..4 {
+        let mut members = [&[][..]; 4];
+        members[place] = &b;
+        assert_eq!(joined(members, &policy, &table).as_deref(), Ok(&b[..]));
+    }
+    assert_eq!(joined([&[]; 4], &policy, &table), Ok(vec![]));
+    // An unused place too wants every high label to be suspect.
+    assert_eq!(joined([&[]; 4], &policy, &[0; TABLE_LENGTH]), Err(refusal(9, 0)));
+}
+
+#[test]
+fn members_refused() {
+    let (a, table) = (bytes(&A), made(&bytes(&A), &usual()));
+    for (fault, expected) in [
+        (bytes(&[A[0], (1, 2, 1, 2)]), refusal(6, 2)),
+        (bytes(&[A[0], (1, 2, 1, 3)]), refusal(5, 2)),
+        (bytes(&[(1, 1, 64, 0)]), refusal(4, 1)),
+        (bytes(&[A[0], A[1], (1, 64, 0, 0)]), refusal(3, 3)),
+        (with_clients(&A, &[0, 1000]), refusal(2, 2)),
+        (vec![0; 12], refusal(1, 0)),
+    ] {
+        for place in 0..4 {
+            let mut members = [&a[..]; 4];
+            members[place] = &fault;
+            assert_eq!(joined(members, &usual(), &table), Err(expected));
+            // Before all else, and what a member behind it has.
+            members[3] = if place < 3 { &[0; 7] } else { &fault };
+            assert_eq!(join(members, &[], &[], &mut [7]), Err(expected));
+        }
+    }
+}
+
+#[test]
+fn sets_refused() {
+    let (a, policy) = (bytes(&A), usual());
+    let table = made(&a, &policy);
+    for length in [0, 8, 16, 31, 33, 40] {
+        let mut buffer = vec![7; length];
+        assert_eq!(join([&a, &[], &[], &a], &policy, &table, &mut buffer), Err(refusal(16, 0)));
+        assert_eq!((buffer, length == 32), (vec![7; length], false));
+    }
+    let most = vec![0; 8192];
+    assert_eq!(joined([&[], &most, &[], &[]], &policy, &table).as_deref(), Ok(&most[..]));
+    assert_eq!(joined([&most[..4096], &[], &most[4096..], &[]], &policy, &table).as_deref(), Ok(&most[..]));
+    assert_eq!(joined([&[], &most, &most[..8], &[]], &policy, &table), Err(refusal(16, 0)));
+    assert_eq!(join([&most, &a, &[], &[]], &policy, &table, &mut [7; 8192]), Err(refusal(16, 0)));
+    // 16 before 7, 7 before 8, 8 before 9.
+    assert_eq!(join([&a, &[], &[], &[]], &policy[1..], &[], &mut []), Err(refusal(16, 0)));
+    assert_eq!(joined([&a, &[], &[], &[]], &policy[1..], &[]), Err(refusal(7, 0)));
+    let mut spoilt = vec![0; TABLE_LENGTH];
+    spoilt[16] = 1;
+    assert_eq!(joined([&a, &[], &[], &[]], &policy, &spoilt), Err(refusal(8, 0)));
+    assert_eq!(joined([&a, &[], &[], &[]], &policy, &[0; TABLE_LENGTH]), Err(refusal(9, 0)));
+}
+
 /// What a line of the header defines.
 fn defined(name: &str) -> &'static str {
     let header = include_str!("../../include/birnsket.h");
@@ -343,8 +432,8 @@ fn defined(name: &str) -> &'static str {
 
 #[test]
 fn the_header_has_the_same_numbers() {
-    assert_eq!(defined("HUB_VERSION "), "0x030000u");
-    assert_eq!((raw::HUB_VERSION, version()), (0x030000, 0x030000));
+    assert_eq!(defined("HUB_VERSION "), "0x030100u");
+    assert_eq!((raw::HUB_VERSION, version()), (0x030100, 0x030100));
     assert_eq!(defined("HUB_POLICY_LENGTH "), POLICY_LENGTH.to_string());
     assert_eq!(defined("HUB_TABLE_LENGTH "), TABLE_LENGTH.to_string());
     assert_eq!(defined("HUB_LONGEST_LIST "), LONGEST_LIST.to_string());
@@ -356,9 +445,9 @@ fn the_header_has_the_same_causes() {
     // Its words in one line, and parts of a string joined.
     let words = header.split_whitespace().collect::<Vec<_>>().join(" ").replace(" \" \"", " ");
     let causes: Vec<String> =
-        (1..16).map(|n| std::format!("return \"{}\";", refusal(n, 0).cause())).collect();
+        (1..17).map(|n| std::format!("return \"{}\";", refusal(n, 0).cause())).collect();
     let found: Vec<usize> = causes.iter().map(|cause| words.find(cause.as_str()).unwrap()).collect();
     assert!(found.is_sorted());
     assert_eq!(words.matches("return \"").count(), causes.len() + 2);
-    assert!((0..100).filter(|&n| refusal(n, 0).cause() != "unknown cause").eq(1..16));
+    assert!((0..100).filter(|&n| refusal(n, 0).cause() != "unknown cause").eq(1..17));
 }

@@ -2,6 +2,7 @@
 
 mod closure;
 mod itinerary;
+mod join;
 mod moves;
 mod sheet;
 pub mod skipping;
@@ -9,6 +10,7 @@ mod steps;
 mod tables;
 
 pub use itinerary::{climb, validate};
+pub use join::join;
 pub use moves::{moves, same_names};
 pub use sheet::sheet;
 pub use steps::{run, step};

@@ -61,7 +61,7 @@ fn decide(itinerary: &[u8], actor: u16, partner: u16) -> Result<Move, u8> {
     })
 }
 
-/// How many records, from `from` on up to `end`, stand before record `number`.
+/// As far from `from` as `end`, but short of record `number`.
 fn short_of(number: u16, from: usize, end: usize) -> usize {
     let number = usize::from(number);
     if from < number && number <= end {
@@ -71,9 +71,8 @@ fn short_of(number: u16, from: usize, end: usize) -> usize {
     }
 }
 
-/// How many records there are, from `from` on up to `end`, before one whose
-/// parent is x or y.
-fn childless_to(itinerary: &[u8], x: u16, y: u16, from: usize, end: usize) -> usize {
+/// As far from `from` as `end`, but short of a record whose parent is x or y.
+fn no_child_to(itinerary: &[u8], x: u16, y: u16, from: usize, end: usize) -> usize {
     let records = itinerary[from * RECORD..end * RECORD].chunks_exact(RECORD);
     let child = |bytes: &[u8]| {
         let parent = u16::from_le_bytes([bytes[4], bytes[5]]);
@@ -89,7 +88,7 @@ fn apply(itinerary: &mut [u8], m: &Move) {
     let mut place = 0;
     while place < count {
         let named = short_of(m.actor, place, short_of(other, place, count));
-        place = childless_to(itinerary, m.actor, m.opened, place, named);
+        place = no_child_to(itinerary, m.actor, m.opened, place, named);
         if place < count {
             remake(&mut itinerary[place * RECORD..][..RECORD], m, place as u16 + 1);
             place += 1;

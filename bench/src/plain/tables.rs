@@ -74,11 +74,12 @@ impl Table {
         table
     }
 
-    /// The labels that each kind and label of capability may act on.
-    fn partners(&self, itinerary: &[u8]) -> Partners {
+    /// The labels that each kind and label of capability may act on, of all the itineraries.
+    fn partners(&self, itineraries: &[&[u8]]) -> Partners {
         let bearers = transposed(&self.names);
         let mut partners = [[0; 64]; 3];
-        for record in records(itinerary).filter(|record| record.kind >= IN) {
+        let all = itineraries.iter().flat_map(|itinerary| records(itinerary));
+        for record in all.filter(|record| record.kind >= IN) {
             partners[usize::from(record.kind - IN)][usize::from(record.label - 64)] |=
                 bearers[usize::from(record.name)];
         }
@@ -95,11 +96,11 @@ impl Table {
         })
     }
 
-    fn holds(&self, itinerary: &[u8], policy: &[u8]) -> bool {
-        if highs(policy) & !self.suspects != 0 || !self.nests(itinerary) {
+    pub fn holds(&self, itineraries: &[&[u8]], policy: &[u8]) -> bool {
+        if highs(policy) & !self.suspects != 0 || !itineraries.iter().all(|itinerary| self.nests(itinerary)) {
             return false;
         }
-        self.rules_hold(&self.partners(itinerary))
+        self.rules_hold(&self.partners(itineraries))
     }
 }
 
@@ -128,7 +129,7 @@ fn accept(itinerary: &[u8], policy: &[u8], table: &[u8]) -> Result<Table, Refusa
         return refuse(8);
     }
     let table = Table::read(table);
-    if !table.holds(itinerary, policy) {
+    if !table.holds(&[itinerary], policy) {
         return refuse(9);
     }
     Ok(table)
@@ -147,7 +148,7 @@ pub fn make(itinerary: &[u8], policy: &[u8], table: &mut [u8]) -> Result<u32, Re
         return refuse(8);
     }
     let mut least = Table::base(itinerary, policy);
-    least.close(&least.partners(itinerary));
+    least.close(&least.partners(&[itinerary]));
     least.write(table);
     Ok(least.count())
 }
@@ -155,7 +156,7 @@ pub fn make(itinerary: &[u8], policy: &[u8], table: &mut [u8]) -> Result<u32, Re
 /// How many passes the maker needs.
 pub fn passes(itinerary: &[u8], policy: &[u8]) -> usize {
     let mut least = Table::base(itinerary, policy);
-    least.close(&least.partners(itinerary))
+    least.close(&least.partners(&[itinerary]))
 }
 
 /// Adds the labels that may stand directly in x.

@@ -2,7 +2,8 @@
 #![tactic(auto, unfolding(packing::specs::Packing::version))]
 
 ghost use Rattle.std.specs.Prelude.{◌≡◌};
-ghost use Rattle.model.specs.Calls.{check_answer, climb_answer, exposed_answer, make_after, make_answer, moves_after, moves_answer, run_after, run_answer, run_answers, screen_after, screen_answer, screen_answers, sheet_after, sheet_answer, step_after, step_answer, validate_answer, verdict_answer};
+ghost use Rattle.model.specs.Calls.{check_answer, climb_answer, exposed_answer, join_after, join_answer, make_after, make_answer, moves_after, moves_answer, run_after, run_answer, run_answers, screen_after, screen_answer, screen_answers, sheet_after, sheet_answer, step_after, step_answer, validate_answer, verdict_answer};
+ghost use Rattle.model.specs.Joins.{four};
 ghost use Rattle.packing.specs.Packing.{climb_result, done_result, exposed_result, make_result, moves_result, row_result, run_result, screen_result, validate_result, verdict_result, version};
 
 use packing::climb::HubClimbResult;
@@ -21,7 +22,7 @@ use packing::verdict::HubVerdictResult;
 pub extern "C" fn hub_version() -> u32
     ensures { result ≡ version }
 {
-    196608
+    196864
 }
 
 // Validates an itinerary: the number of records.
@@ -75,6 +76,23 @@ pub extern "C" fn hub_moves(it: &[u8], list: &mut [u8]) -> HubMovesResult
     ensures list { list.new ≡ moves_after it.now list.old }
 {
     calls::moves(it, list).into()
+}
+
+// Joins four itineraries.
+#[unsafe(no_mangle)]
+pub extern "C" fn hub_join(
+    first: &[u8],
+    second: &[u8],
+    third: &[u8],
+    fourth: &[u8],
+    policy: &[u8],
+    table: &[u8],
+    buffer: &mut [u8],
+) -> HubStatus
+    ensures answer { result ≡ done_result (join_answer (four first.now second.now third.now fourth.now) policy.now table.now buffer.old) }
+    ensures buffer { buffer.new ≡ join_after (four first.now second.now third.now fourth.now) policy.now table.now buffer.old }
+{
+    calls::join(first, second, third, fourth, policy, table, buffer).into()
 }
 
 // Checks a table.

@@ -3,8 +3,9 @@
 #![tactic(auto)]
 
 ghost use Rattle.std.specs.Prelude.{◌≡◌, ◌+◌};
-ghost use Rattle.model.specs.Calls.{check_answer, climb_answer, exposed_answer, make_after, make_answer, moves_after, moves_answer, row_of, row_start, run_after, run_answer, run_answers, screen_after, screen_answer, screen_answers, sheet_after, sheet_answer, step_after, step_answer, validate_answer, verdict_answer};
+ghost use Rattle.model.specs.Calls.{check_answer, climb_answer, exposed_answer, join_after, join_answer, make_after, make_answer, moves_after, moves_answer, row_of, row_start, run_after, run_answer, run_answers, screen_after, screen_answer, screen_answers, sheet_after, sheet_answer, step_after, step_answer, validate_answer, verdict_answer};
 ghost use Rattle.model.specs.Numbers.{answer_as};
+ghost use Rattle.model.specs.Joins.{four};
 
 use model::{Above, Counts, Refusal, Screen, Tally, Verdict};
 
@@ -104,6 +105,25 @@ pub fn exposed(it: &[u8], policy: &[u8], table: &[u8]) -> Result<bool, Refusal>
     ensures { answer_as result ≡ exposed_answer it.now policy.now table.now }
 {
     sequences::checking(it, policy, table).map(|(p, t)| verdicts::exposed(p, t))
+}
+
+// Four itineraries as one bench: refusals 1 to 6 of each, 16, 7, 8, 9. A place that isn't used is an itinerary of no records.
+#[tactic(auto, unfolding(model::specs::Calls::join_answer, model::specs::Calls::join_after, model::specs::Numbers::answer_as, model::specs::Numbers::check_as, model::specs::Numbers::refusal, model::specs::Refusals::answer, model::specs::Refusals::content))]
+pub fn join(
+    first: &[u8],
+    second: &[u8],
+    third: &[u8],
+    fourth: &[u8],
+    policy: &[u8],
+    table: &[u8],
+    buffer: &mut [u8],
+) -> Result<(), Refusal>
+    ensures answer { answer_as result ≡ join_answer (four first.now second.now third.now fourth.now) policy.now table.now buffer.old }
+    ensures buffer { buffer.new ≡ join_after (four first.now second.now third.now fourth.now) policy.now table.now buffer.old }
+{
+    let members = sequences::joining(first, second, third, fourth, policy, table, buffer)?;
+    joins::write(&members, buffer);
+    Ok(())
 }
 
 // The row of a label as that very part of the lent table; the empty part for any other label or length.

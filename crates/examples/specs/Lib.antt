@@ -6,3 +6,4 @@ pub mod Published
 pub mod Tabled
 pub mod Witness
 pub mod Clients
+pub mod Joined

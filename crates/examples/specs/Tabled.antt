@@ -1,12 +1,12 @@
 -- A table given by the list of its bits, as the theorem about two benches takes it: what the checker computes of the list
 -- is what the calls say of the 1,544 bytes.
-use Rattle.std.specs.Prelude.{ℕ, length, Bool, ◌&&◌, not, true, List, ◌≡◌}
+use Rattle.std.specs.Prelude.{ℕ, length, Bool, ◌&&◌, false, not, true, List, ◌≡◌, refl}
 use Rattle.std.proofs.Common.{eq-eqb, ◌∙◌, subst, sym}
 use Rattle.std.proofs.Math.Path.{ap, ap₂}
 use Rattle.examples.specs.Claims.{is_in}
 use Rattle.examples.specs.Listed.{all_below, bits-listed}
 use Rattle.model.specs.Analysis.{permit_all, holds}
-use Rattle.model.specs.Calls.{check_answer, checking, verdict_answer}
+use Rattle.model.specs.Calls.{check_answer, checking, comparing, entry, verdict_answer}
 use Rattle.model.specs.Finite.{every}
 use Rattle.model.proofs.Laws.Checks.{answer-done}
 use Rattle.model.proofs.Laws.Booleans.{and-make}
@@ -16,7 +16,7 @@ use Rattle.model.proofs.Laws.Sets.{length-bytes}
 use Rattle.model.specs.Least.{bytes}
 use Rattle.model.specs.Observer.{sheet, sheet_of}
 use Rattle.model.specs.Records.{encode, records}
-use Rattle.model.specs.Refusals.{answer, done, pass}
+use Rattle.model.specs.Refusals.{and_then, answer, done, need, pass, refuse}
 use Rattle.model.specs.Tables.{bits, parts, place_h, place_i, place_s, policy_right, table_right, table_sized}
 use Rattle.model.specs.Validity.{validity}
 use Rattle.model.specs.Verdicts.{verdict_of}
@@ -51,6 +51,12 @@ module _ (xs : List ℕ) (small : all_below 12352 xs ≡ true) where
     table-right = right-tabled f;
     holding = holds-sound permit_all policy (records s) (parts (bits (table_of xs))) (rw bits-tabled h);
   })
+
+  -- a table of the right form that doesn't hold
+  pub refusing : (policy : List ℕ) → policy_right policy ≡ true → formed xs ≡ true → (s : List ℕ) → validity s ≡ pass →
+      holds permit_all policy (records s) (parts (is_in xs)) ≡ false → checking s policy (table_of xs) ≡ refuse 9 0
+  unfolding checking comparing entry need and_then
+  refusing policy p f s v h = rw (v, p, right-tabled f, bits-tabled, h) refl
 
   pub judging : (policy s : List ℕ) (v : Verdict) → check_answer s policy (table_of xs) ≡ done tt → verdict_of (parts (is_in xs)) policy ≡ v →
       verdict_answer s policy (table_of xs) ≡ done v

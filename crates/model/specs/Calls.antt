@@ -4,6 +4,7 @@ use Rattle.std.specs.Prelude.{◌*◌, ℕ, eqb, leb, drop, length, take, Bool, 
 use Rattle.model.specs.Analysis.{permit_all, holds}
 use Rattle.model.specs.Climbing.{enclosure}
 use Rattle.model.specs.Finite.{over}
+use Rattle.model.specs.Joins.{join_bytes, members_check, set_right}
 use Rattle.model.specs.Least.{least_table}
 use Rattle.model.specs.MoveList.{list_bytes, moves, tally_of}
 use Rattle.model.specs.Observer.{sheet_of}
@@ -137,6 +138,22 @@ verdict_answer s policy table = answer (checking s policy table) (verdict_of (pa
 -- document 02, Job 1: whether it is exposed, "with the same refusals" as the verdict
 unfoldable pub exposed_answer : List ℕ → List ℕ → List ℕ → Answer Bool
 exposed_answer s policy table = answer (checking s policy table) (exposed (parts (bits table)) policy)
+
+-- document 02, Job 6: "each member's checks 1 to 6", 16, then the check of the joined bytes, which adds nothing before 7 today:
+-- what is joined is valid
+unfoldable pub joining : List (List ℕ) → List ℕ → List ℕ → List ℕ → Check
+joining members policy table buffer =
+    members_check members
+    ▸ need (set_right members buffer) 16 0
+    ▸ checking (join_bytes members) policy table
+
+-- "The screen should give this answer for the whole set in one call": the check's
+unfoldable pub join_answer : List (List ℕ) → List ℕ → List ℕ → List ℕ → Answer (Unit {0})
+join_answer members policy table buffer = answer (joining members policy table buffer) tt
+
+-- the lent buffer after the call: "on any refusal the buffer is unchanged"
+unfoldable pub join_after : List (List ℕ) → List ℕ → List ℕ → List ℕ → List ℕ
+join_after members policy table buffer = content (joining members policy table buffer) (join_bytes members) buffer
 
 -- the part, or the empty one
 unfoldable pub part_if : Bool → List ℕ → List ℕ

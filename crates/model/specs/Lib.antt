@@ -13,6 +13,7 @@ pub mod Steps
 pub mod Verdicts
 pub mod Scripts
 pub mod MoveList
+pub mod Joins
 pub mod Calls
 pub mod Numbers
 pub mod Listing

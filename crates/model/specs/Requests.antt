@@ -1,16 +1,18 @@
 -- Document 02: what its Jobs promise of the calls beside their definitions, as propositions. Their proofs are in Laws.
-use Rattle.std.specs.Prelude.{◌*◌, ◌+◌, ◌<◌, ◌≤◌, suc, ℕ, eqb, length, map, Bool, false, true, List, [], ◌∷◌, ◌≢◌, ◌≡◌, ◌⊎◌}
+use Rattle.std.specs.Prelude.{◌*◌, ◌+◌, ◌<◌, ◌≤◌, suc, ℕ, eqb, length, map, Bool, ◌&&◌, false, true, List, [], ◌++◌, ◌∷◌, ◌≢◌, ◌≡◌, ◌⊎◌}
 use Rattle.std.specs.List.{Contains}
-use Rattle.model.specs.Analysis.{permit_all}
-use Rattle.model.specs.Calls.{check_answer, climb_answer, exposed_answer, make_after, make_answer, moves_answer, moving, step_answer, verdict_answer}
+use Rattle.model.specs.Analysis.{Permit, holds, permit_all}
+use Rattle.model.specs.Calls.{check_answer, climb_answer, exposed_answer, join_after, join_answer, make_after, make_answer, moves_answer, moving, step_answer, verdict_answer}
 use Rattle.model.specs.Climbing.{climb, container}
 use Rattle.model.specs.Finite.{Each, summed, tally}
+use Rattle.model.specs.Joins.{four, join, join_bytes}
 use Rattle.model.specs.MoveList.{answering, list_bytes, moves}
-use Rattle.model.specs.Noninterference.{BoundaryAt, Event, OnSheet, UnderBoundary, after}
+use Rattle.model.specs.Noninterference.{BoundaryAt, Event, Noninterference, OnSheet, UnderBoundary, after}
 use Rattle.model.specs.Observer.{sheet_of}
 use Rattle.model.specs.Records.{at, count, parent_of, records}
 use Rattle.model.specs.Refusals.{done, number, pass, read_off}
 use Rattle.model.specs.Scripts.{Step, steps_in}
+use Rattle.model.specs.Tables.{Table}
 use Rattle.model.specs.Validity.{validity}
 use Rattle.model.specs.declared.Above.{Above}
 use Rattle.model.specs.declared.Rec.{Rec}
@@ -111,3 +113,51 @@ ClientsUnread = (x y policy table : List ℕ) → validity x ≡ pass → validi
 -- Job 4: "two equal sheets now agree on clients too", of the records that stand on them
 abbrev pub SheetsAgree : Type 0
 SheetsAgree = (x y table : List ℕ) → sheet_of x table ≡ sheet_of y table → (i : ℕ) → OnSheet table x i → (at (records x) i).client ≡ (at (records y) i).client
+
+-- members that 1 to 6 let through, each
+abbrev pub Valid : List (List ℕ) → Type 0
+Valid members = Each (λ s. validity s ≡ pass) members
+
+-- Job 6: "One table holds for the joined itinerary exactly when it holds for each of the four": an equation of tests, for any permit
+abbrev pub JoinHolds : Type 0
+JoinHolds = (permit : Permit) (policy : List ℕ) (T : Table) (a b c d : List ℕ) → Valid (four a b c d) →
+    let holds-of : List Rec → Bool = λ its. holds permit policy its T in
+    holds-of (join (four a b c d)) ≡ (holds-of (records a) && (holds-of (records b) && (holds-of (records c) && holds-of (records d))))
+
+-- and so at the calls: it is accepted for the joined itinerary exactly when it is accepted for each
+abbrev pub JoinAccepted : Type 0
+JoinAccepted = (policy table a b c d : List ℕ) → Valid (four a b c d) → length (join (four a b c d)) ≤ 1024 →
+    let accepted : List ℕ → Type 0 = λ s. check_answer s policy table ≡ done tt in
+    (accepted (join_bytes (four a b c d)) → Each accepted (four a b c d)) × (Each accepted (four a b c d) → accepted (join_bytes (four a b c d)))
+
+-- valid members that are few enough make a valid itinerary, of the joined records
+abbrev pub JoinValid : Type 0
+JoinValid = (members : List (List ℕ)) → Valid members → length (join members) ≤ 1024 →
+    (validity (join_bytes members) ≡ pass) × (records (join_bytes members) ≡ join members)
+
+-- Job 6: "an unused place is an itinerary of no records": three of them, wherever they are, give back the member's bytes
+abbrev pub JoinAlone : Type 0
+JoinAlone = (before after : List (List ℕ)) (s : List ℕ) → Each (λ u. u ≡ []) before → Each (λ u. u ≡ []) after → validity s ≡ pass →
+    Each (λ x. x < 256) s → join_bytes (before ++ s ∷ after) ≡ s
+
+-- the sheet of a join is the join of the sheets
+abbrev pub JoinSheet : Type 0
+JoinSheet = (members : List (List ℕ)) (table : List ℕ) → Valid members → length (join members) ≤ 1024 →
+    sheet_of (join_bytes members) table ≡ join_bytes (map (λ s. sheet_of s table) members)
+
+-- so members with equal lengths and sheets make benches with equal lengths and sheets
+abbrev pub JoinSheetsEqual : Type 0
+JoinSheetsEqual = (xs ys : List (List ℕ)) (table : List ℕ) → Valid xs → Valid ys → length (join xs) ≤ 1024 →
+    map length xs ≡ map length ys → map (λ s. sheet_of s table) xs ≡ map (λ s. sheet_of s table) ys →
+    (length (join_bytes xs) ≡ length (join_bytes ys)) × (sheet_of (join_bytes xs) table ≡ sheet_of (join_bytes ys) table)
+
+-- Job 6: "The secrecy wish is then about two joined benches.": what the call lets through twice and wrote into x and y
+abbrev pub JoinSecrecy : Type 0
+JoinSecrecy = (policy table : List ℕ) (xs ys : List (List ℕ)) (bx by : List ℕ) →
+    let x : List ℕ = join_after xs policy table bx in
+    let y : List ℕ = join_after ys policy table by in
+    length x ≡ length y →
+    join_answer xs policy table bx ≡ done tt → join_answer ys policy table by ≡ done tt →
+    verdict_answer x policy table ≡ done Sealed →
+    sheet_of x table ≡ sheet_of y table →
+    (es : List Event) → Noninterference policy table x y es

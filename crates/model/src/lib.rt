@@ -95,6 +95,7 @@ pub enum Cause {
     Script = 13,
     Sheet = 14,
     List = 15,
+    Set = 16,
 }
 
 impl Cause {
@@ -126,6 +127,7 @@ impl fmt::Display for Cause {
                 "script length no multiple of 4, over 4,096, or answers not one byte a step",
             Cause::Sheet => "sheet not of the itinerary's length",
             Cause::List => "list buffer shorter than the list",
+            Cause::Set => "over 1,024 records together, or a buffer not of the joined length",
         })
     }
 }

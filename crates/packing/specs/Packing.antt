@@ -23,9 +23,9 @@ use Rattle.model.specs.declared.Screen.{Screen}
 use Rattle.model.specs.declared.Tally.{Tally}
 use Rattle.model.specs.declared.Verdict.{Verdict}
 
--- the interface's version, major * 65,536 + minor * 256 + patch: 3.0.0
+-- the interface's version, major * 65,536 + minor * 256 + patch: 3.1.0
 unfoldable pub version : ℕ
-version = 196608
+version = 196864
 
 -- "number, record", which each result begins with
 unfoldable pub status : ℕ → ℕ → HubStatus
@@ -47,7 +47,7 @@ counts c = record { ins = c.ins; outs = c.outs; opens = c.opens }
 unfoldable pub uncounted : HubCounts
 uncounted = record { ins = 0; outs = 0; opens = 0 }
 
--- sheet, step and check: nothing but that it was done
+-- sheet, step, check and join: nothing but that it was done
 unfoldable pub done_result : Answer (Unit {0}) → HubStatus
 done_result (done u) = status 0 0
 done_result (refused n i) = status n i

@@ -1,5 +1,5 @@
-// What each result begins with, and all that check, sheet and step answer: a refusal's number and record, both 0 where the
-// call is done.
+// What each result begins with, and all that check, join, sheet and step answer: a refusal's number and record, both 0
+// where the call is done.
 ghost use Rattle.std.specs.Prelude.{◌≡◌};
 ghost use Rattle.model.specs.Numbers.{answer_as, number_of};
 ghost use Rattle.packing.specs.Packing.{done_result, status};

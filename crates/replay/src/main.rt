@@ -28,6 +28,10 @@ fn answer(case: Case, memory: &mut Memory) -> Option<Reply> {
         answers,
         sheet,
         list,
+        second,
+        third,
+        fourth,
+        joined,
     } = memory;
     let (x, y) = (case.x, case.y);
     Some(match case.call? {
@@ -68,6 +72,15 @@ fn answer(case: Case, memory: &mut Memory) -> Option<Reply> {
             table.content(),
         )),
         Call::Moves => reply(calls::moves(itinerary.content(), list.content_mut())),
+        Call::Join => reply(calls::join(
+            itinerary.content(),
+            second.content(),
+            third.content(),
+            fourth.content(),
+            policy.content(),
+            table.content(),
+            joined.content_mut(),
+        )),
     })
 }
 
@@ -106,4 +119,5 @@ fn main(rt: HostRuntime) {
     play(&rt, rt.alloc(), b"table.cases");
     play(&rt, rt.alloc(), b"screen.cases");
     play(&rt, rt.alloc(), b"moves.cases");
+    play(&rt, rt.alloc(), b"join.cases");
 }

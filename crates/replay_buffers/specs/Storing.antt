@@ -13,13 +13,15 @@ use Rattle.replay_buffers.specs.declared.Memory.{Memory}
 unfoldable pub IsEmpty : ℕ → Buffer → Type 0
 IsEmpty size b = (b.content.items ≡ []) × (b.shadow.items ≡ []) × (b.size ≡ size)
 
--- "Longest contents: itinerary and sheet 8,264, policy 80, table 1,560, script 4,104, answers 1,032, list 1,048,600"
+-- "Longest contents: itinerary, sheet and each other member 8,264, policy 80, table 1,560, script 4,104, answers 1,032, list
+-- 1,048,600, joined 32,768"
 unfoldable pub IsEmptyMemory : Memory → Type 0
 IsEmptyMemory m =
     IsEmpty 8264 m.itinerary × IsEmpty 80 m.policy × IsEmpty 1560 m.table × IsEmpty 4104 m.script
     × IsEmpty 1032 m.answers × IsEmpty 8264 m.sheet × IsEmpty 1048600 m.list
+    × IsEmpty 8264 m.second × IsEmpty 8264 m.third × IsEmpty 8264 m.fourth × IsEmpty 32768 m.joined
 
--- "1 itinerary, 2 policy, 3 table, 4 script, 5 answers, 6 sheet, 7 list"
+-- "1 itinerary, 2 policy, 3 table, 4 script, 5 answers, 6 sheet, 7 list, 8 to 10 the second to fourth member .. 11 joined"
 unfoldable pub buffer_of : ℕ → Memory → Option Buffer
 buffer_of zero m = None
 buffer_of (suc zero) m = Some m.itinerary
@@ -29,7 +31,11 @@ buffer_of (suc (suc (suc (suc zero)))) m = Some m.script
 buffer_of (suc (suc (suc (suc (suc zero))))) m = Some m.answers
 buffer_of (suc (suc (suc (suc (suc (suc zero)))))) m = Some m.sheet
 buffer_of (suc (suc (suc (suc (suc (suc (suc zero))))))) m = Some m.list
-buffer_of (suc (suc (suc (suc (suc (suc (suc (suc k)))))))) m = None
+buffer_of (suc (suc (suc (suc (suc (suc (suc (suc zero)))))))) m = Some m.second
+buffer_of (suc (suc (suc (suc (suc (suc (suc (suc (suc zero))))))))) m = Some m.third
+buffer_of (suc (suc (suc (suc (suc (suc (suc (suc (suc (suc zero)))))))))) m = Some m.fourth
+buffer_of (suc (suc (suc (suc (suc (suc (suc (suc (suc (suc (suc zero))))))))))) m = Some m.joined
+buffer_of (suc (suc (suc (suc (suc (suc (suc (suc (suc (suc (suc (suc k)))))))))))) m = None
 
 -- b' is the buffer b with n bytes, each the one given
 unfoldable pub IsFull : ℕ → ℕ → Buffer → Buffer → Type 0
@@ -57,7 +63,8 @@ buffer_right b = pointwise nat_eq b.content.items b.shadow.items
 unfoldable pub as_wanted : Reply → Reply → Memory → Bool
 as_wanted got want m =
     agreeing got want
-    && (buffer_right m.itinerary && (buffer_right m.table && (buffer_right m.answers && (buffer_right m.sheet && buffer_right m.list))))
+    && (buffer_right m.itinerary && (buffer_right m.table && (buffer_right m.answers && (buffer_right m.sheet
+    && (buffer_right m.list && buffer_right m.joined)))))
 
 -- "number (one byte), record, the values": value k of an answer as a file has it
 unfoldable pub value : List ℕ → ℕ → ℕ

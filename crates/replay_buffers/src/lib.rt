@@ -133,6 +133,10 @@ pub struct Memory {
     pub answers: Buffer,
     pub sheet: Buffer,
     pub list: Buffer,
+    pub second: Buffer,
+    pub third: Buffer,
+    pub fourth: Buffer,
+    pub joined: Buffer,
 }
 
 impl Memory {
@@ -148,6 +152,10 @@ impl Memory {
             answers: Buffer::new(alloc, 1032),
             sheet: Buffer::new(alloc, 8264),
             list: Buffer::new(alloc, 1048600),
+            second: Buffer::new(alloc, 8264),
+            third: Buffer::new(alloc, 8264),
+            fourth: Buffer::new(alloc, 8264),
+            joined: Buffer::new(alloc, 32768),
         }
     }
 
@@ -163,12 +171,16 @@ impl Memory {
             5 => Some(&mut self.answers),
             6 => Some(&mut self.sheet),
             7 => Some(&mut self.list),
+            8 => Some(&mut self.second),
+            9 => Some(&mut self.third),
+            10 => Some(&mut self.fourth),
+            11 => Some(&mut self.joined),
             _ => None,
         }
     }
 
-    // Whether a call gave the answer wanted and left the bytes wanted. (No call can write policy or script: what a file wants
-    // of these isn't looked at.)
+    // Whether a call gave the answer wanted and left the bytes wanted. (No call can write policy, script or a member behind the
+    // first: what a file wants of these isn't looked at.)
     pub fn as_wanted(&self, got: Reply, want: Reply) -> bool
         ensures { result ≡ as_wanted got want self.now }
     {
@@ -178,6 +190,7 @@ impl Memory {
             && self.answers.is_as_wanted()
             && self.sheet.is_as_wanted()
             && self.list.is_as_wanted()
+            && self.joined.is_as_wanted()
     }
 }
 

@@ -29,6 +29,7 @@ pub enum Call {
     Screen,
     Exposed,
     Moves,
+    Join,
 }
 
 impl TryFrom<u8> for Call {
@@ -50,6 +51,7 @@ impl TryFrom<u8> for Call {
             25 => Call::Screen,
             26 => Call::Exposed,
             27 => Call::Moves,
+            28 => Call::Join,
             _ => return Err(Fault),
         })
     }
@@ -269,9 +271,9 @@ pub fn next_case(file: &mut impl Read, memory: &mut Memory) -> Result<Option<Cas
                 at_end(file)?;
                 return Ok(None);
             }
-            // Policy and script have no shadow to overwrite.
-            Command::Prepare(Change::WantBytes, 2 | 4, 1..) => return Err(Fault),
-            Command::Prepare(Change::WantPairs, 2 | 4, _) => return Err(Fault),
+            // Policy, script and the members behind the first have no shadow to overwrite.
+            Command::Prepare(Change::WantBytes, 2 | 4 | 8..=10, 1..) => return Err(Fault),
+            Command::Prepare(Change::WantPairs, 2 | 4 | 8..=10, _) => return Err(Fault),
             Command::Prepare(change, k, n) => {
                 let buffer = memory.buffer(k).ok_or(Fault)?;
                 prepare(file, change, buffer, n)?;

@@ -6,11 +6,13 @@
 
 ghost use Rattle.std.specs.Prelude.{◌≡◌, IfOk};
 ghost use Rattle.model.specs.Analysis.{permit_all};
-ghost use Rattle.model.specs.Calls.{checking, comparing, entry, making, moving, running, screening, showing};
+ghost use Rattle.model.specs.Calls.{checking, comparing, entry, joining, making, moving, running, screening, showing};
+ghost use Rattle.model.specs.Joins.{four, members_check};
 ghost use Rattle.model.specs.MoveList.{tally_of};
 ghost use Rattle.model.specs.Numbers.{check_as};
 ghost use Rattle.model.specs.Records.{records};
 
+use joins::Members;
 use model::{Cause, Refusal, Tally};
 use records::Itinerary;
 use tables::{Policy, Table};
@@ -90,6 +92,47 @@ pub fn checking<'a, 'b>(
     let (valid, policy, table) = comparing(it, policy, table)?;
     gates::need(table_holds::holds(&valid, policy, table), Cause::Holds, 0)?;
     Ok((policy, table))
+}
+
+// Refusals 1 to 6 of each member, in their order; the members that pass.
+#[tactic(auto, unfolding(model::specs::Joins::members_check, model::specs::Numbers::check_as, model::specs::Refusals::and_then))]
+fn members<'a>(
+    first: &'a [u8],
+    second: &'a [u8],
+    third: &'a [u8],
+    fourth: &'a [u8],
+) -> Result<Members<'a>, Refusal>
+    ensures checks { check_as result ≡ members_check (four first.now second.now third.now fourth.now) }
+    ensures same { IfOk result (λ passed. passed ≡ four first.now second.now third.now fourth.now) }
+{
+    Ok([
+        validity::validity(first)?,
+        validity::validity(second)?,
+        validity::validity(third)?,
+        validity::validity(fourth)?,
+    ])
+}
+
+// Refusals 1 to 6 of each member, 16, 7, 8, 9. The last is asked of the members' records: nothing is joined yet.
+#[tactic(auto, using(joins::specs::Sequence::by_members), unfolding(model::specs::Numbers::check_as, model::specs::Numbers::number_of, model::specs::Refusals::and_then))]
+pub fn joining<'a>(
+    first: &'a [u8],
+    second: &'a [u8],
+    third: &'a [u8],
+    fourth: &'a [u8],
+    policy: &[u8],
+    table: &[u8],
+    buffer: &[u8],
+) -> Result<Members<'a>, Refusal>
+    ensures checks { check_as result ≡ joining (four first.now second.now third.now fourth.now) policy.now table.now buffer.now }
+    ensures same { IfOk result (λ passed. passed ≡ four first.now second.now third.now fourth.now) }
+{
+    let members = members(first, second, third, fourth)?;
+    joins::set_gate(&members, buffer)?;
+    let policy = tables::policy_gate(policy)?;
+    let table = tables::table_gate(table)?;
+    gates::need(joins::hold(&members, policy, table), Cause::Holds, 0)?;
+    Ok(members)
 }
 
 // Refusals 1 to 6, 7, 8 by the length alone.

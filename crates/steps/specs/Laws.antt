@@ -185,7 +185,7 @@ module _ (f : ℕ → Rec → Rec) where
 
   pub pass-settled : (s : List ℕ) → ((j : ℕ) → byte s j < 256) → validity s ≡ pass → (k : ℕ) → ((i : ℕ) → k < i → i ≤ count s → f i (at (records s) i) ≡ at (records s) i) →
       passed_to f k s ≡ encode (update f (records s))
-  unfolding passed_to at
+  unfolding passed_to written at
   pass-settled s b v k h =
       let its = records s in
       let rest : drop (8 * k) s ≡ encode (drop k (update f its)) =

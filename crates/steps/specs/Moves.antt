@@ -69,7 +69,7 @@ opened (Opens b) c = b
 unfoldable pub past : ℕ → ℕ → ℕ → ℕ
 past x q p = elim (eqb p x) [ true ↦ q | false ↦ p ]
 
--- the parent of record i, not the actor, after the change, if it stands
+-- the parent of record i, which isn't the actor c, after a move with this change, if it stands; before it has p
 unfoldable pub parent_changed : Change → ℕ → ℕ → ℕ → ℕ → Option ℕ
 parent_changed (To t) c q i p = Some (past c q (elim (eqb i q) [ true ↦ t | false ↦ p ]))
 parent_changed (Opens b) c q i p = elim (eqb i b) [ true ↦ None | false ↦ Some (past c q (past b q p)) ]

@@ -11,7 +11,7 @@ ghost use Rattle.model.specs.Steps.{outcome, ready, step_bytes};
 ghost use Rattle.model.specs.Validity.{validity};
 ghost use Rattle.records.specs.Written.{with_record};
 ghost use Rattle.steps.specs.Moves.{Places, admitted, applied, fit_by, move_by, opened, other, parent_after, past, remade, stands_by};
-ghost use Rattle.steps.specs.Passes.{ChildlessTo, ShortOf, UntouchedTo, passed_to};
+ghost use Rattle.steps.specs.Passes.{NoChildTo, ShortOf, UntouchedTo, passed_to};
 
 use model::{Capability, Cause, Rec};
 
@@ -93,7 +93,7 @@ pub fn fits(x: Acting, p: Rec, partner: u16) -> bool
 }
 
 // Which of n records may fit a ready actor, for whoever looks for its partners: those behind the first number, up to the last. For an
-// out it is one, its parent's parent.
+// out it is at most one, its parent's parent.
 pub fn places(x: Acting, n: u16) -> (u16, u16)
     ensures { Places x n result.0 result.1 }
 {
@@ -196,7 +196,8 @@ fn remake(it: &mut [u8], m: Move, i: u16)
     }
 }
 
-// How many records, from i on up to k, stand before record n.
+// A number from i to k, so that none of the numbers behind i up to it is n. (How far it goes is not promised, and a matter of speed;
+// so with the next two.)
 fn short_of(n: u16, i: u16, k: u16) -> u16
     requires { i ≤ k }
     ensures { ShortOf n i k result }
@@ -204,11 +205,11 @@ fn short_of(n: u16, i: u16, k: u16) -> u16
     if (i < n) & (n <= k) { n - 1 } else { k }
 }
 
-// How many records there are, from i on up to k, before one whose parent is x or y.
-fn childless_to(it: &[u8], x: u16, y: u16, i: u16, k: u16) -> u16
+// A number from i to k, so that none of the records behind i up to it has x or y as its parent.
+fn no_child_to(it: &[u8], x: u16, y: u16, i: u16, k: u16) -> u16
     requires ordered { i ≤ k }
     requires inside { 8 * k ≤ length it.now }
-    ensures { ChildlessTo x y i k it.now result }
+    ensures { NoChildTo x y i k it.now result }
 {
     for j in i..k {
         let p = records::parent_of(it, j + 1);
@@ -219,14 +220,14 @@ fn childless_to(it: &[u8], x: u16, y: u16, i: u16, k: u16) -> u16
     k
 }
 
-// How many records there are, from i on up to k, before one that the move changes: it has a number or a parent of the move's.
+// A number from i to k, so that none of the records behind i up to it has a number or a parent of the move's: it changes none of them.
 fn untouched_to(it: &[u8], m: Move, i: u16, k: u16) -> u16
     requires ordered { i ≤ k }
     requires inside { 8 * k ≤ length it.now }
     ensures { UntouchedTo m i k it.now result }
 {
     let named = short_of(m.actor, i, short_of(other(m.change, m.home), i, k));
-    childless_to(it, m.actor, opened(m.change, m.actor), i, named)
+    no_child_to(it, m.actor, opened(m.change, m.actor), i, named)
 }
 
 // The pass over the first k records, in the lent bytes. (No `for`: it goes on from record to record that is changed.)

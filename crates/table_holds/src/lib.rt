@@ -14,7 +14,7 @@ use records::Itinerary;
 use tables::{HIGH, Policy, Table};
 
 // Whether every high label is suspect.
-fn highs_hold(policy: &Policy, table: &Table) -> bool
+pub fn highs_hold(policy: &Policy, table: &Table) -> bool
     ensures { result ≡ every 64 (is_high policy.now) (suspects table.now) }
 {
     policy.iter().enumerate().all(|(k, &class)| class != HIGH
@@ -38,7 +38,7 @@ fn stands(r: Rec, table: &Table, container: u8) -> bool
 }
 
 // Whether every ambient and capability may stand where it stands and every ambient bear its name.
-fn nesting_holds(it: &Itinerary, policy: &Policy, table: &Table) -> bool
+pub fn nesting_holds(it: &Itinerary, policy: &Policy, table: &Table) -> bool
     ensures { result ≡ nesting_holds (records it.now) (parts (bits table.now)) }
 {
     let bytes = it.bytes;

@@ -1,6 +1,6 @@
 -- The folded rules hold exactly where the rules of all capability records do.
-use Rattle.std.specs.Prelude.{◌%◌, ◌*◌, ◌+◌, ◌-◌, ◌/◌, ◌<◌, ◌≤◌, ℕ, suc, zero, leb, get_or, length, ◌&&◌, Bool, false, List, ◌≡◌}
-use Rattle.std.proofs.Common.{le-leb, leb-true, ne_eqb, true≢false, ⊎_elim, ◌∙◌, ap, subst, sym}
+use Rattle.std.specs.Prelude.{◌%◌, ◌*◌, ◌+◌, ◌-◌, ◌/◌, ◌<◌, ◌≤◌, ℕ, suc, zero, leb, get_or, length, ◌&&◌, Bool, false, List, ◌≡◌, ◌⊎◌}
+use Rattle.std.proofs.Common.{le-leb, leb-true, ne_eqb, true≢false, inl, inr, ⊎_elim, ◌∙◌, ap, subst, sym}
 use Rattle.std.proofs.Math.Bool.{true}
 use Rattle.std.specs.Prelude.{None, Some}
 use Rattle.std.proofs.Math.Path.{refl}
@@ -10,7 +10,7 @@ use Rattle.model.proofs.Laws.Done.{kind-of}
 use Rattle.model.specs.Scripts.{kind_of}
 use Rattle.model.proofs.Laws.Bit.{zero_bit}
 use Rattle.model.proofs.Laws.Bytes.{at-decode, valid-wf}
-use Rattle.model.proofs.Laws.Booleans.{and_left, and-make, and_right, bool_iff, is_false, never}
+use Rattle.model.proofs.Laws.Booleans.{and_left, and-make, and_right, is_false, never}
 use Rattle.model.proofs.Laws.Sets.{Narrow}
 use Rattle.model.proofs.Laws.Updates.{at-over, at-root}
 use Rattle.model.proofs.Laws.WellFormed.{WellFormed, shape-label, shape-named}
@@ -19,12 +19,12 @@ use Rattle.model.specs.Records.{at, capability, count, decode, is_ambient, neste
 use Rattle.model.specs.Refusals.{pass}
 use Rattle.model.specs.Tables.{parts, place_h, place_i, place_s, test_bit}
 use Rattle.model.specs.declared.Rec.{Rec}
-use Rattle.table_partners.specs.Partners.{Partners, PartnersAdded, TargetedBy, Targets, borne, in_h, is_capability, slot}
+use Rattle.table_partners.specs.Partners.{AddedTo, AllAdded, Partners, PartnersAdded, TargetedBy, Targets, borne, in_h, is_capability, slot}
 use Rattle.table_partners.specs.Rules.{RuleOf, RulesClosed}
 use Rattle.tables.specs.Grow.{Set}
 use Rattle.model.specs.declared.Capability.{Capability}
 use Rattle.model.specs.declared.Capability.TheVariants.{In as cap-in, Open as cap-open, Out as cap-out}
-use Rattle.table_words.specs.Adds.{Adds, adds-as, adds_none, adds-or}
+use Rattle.table_words.specs.Adds.{Adds, adds-as, adds-next, adds_none, adds-or}
 use Rattle.table_words.specs.Transposes.{Transposed, transposed-bit}
 use Rattle.table_words.specs.BitSets.{at-word, below_64, or_at}
 
@@ -102,33 +102,34 @@ added-one bearers r p i h f l = adds-as (adds-or p i (get_or bearers r.name 0) l
 
 -- ---- all records
 
-module _ (its : List Rec) (H : ℕ → ℕ → Bool) where
-  pub partners-none : (p : List ℕ) → ((i : ℕ) → get_or p i 0 ≡ 0) → Partners its H 0 p
-  partners-none p z = record {
-    has = λ j i b l a. let k = cap-bounds _ a.capable in let e : (at its j).kind ≡ 0 = ap (λ (r : Rec). r.kind) (ap (at its) (omega arith) ∙ at-root its) in absurd (omega arith);
-    only = λ i b t. absurd (true≢false (sym t ∙ ap (λ (x : ℕ). test_bit x b) (z i) ∙ zero_bit b));
-  }
-
-  pub partners-next : (n : ℕ) (p p' : List ℕ) (r : Rec) → r ≡ at its (n + 1) → Partners its H n p → PartnersAdded H r p p' → Partners its H (n + 1) p'
-  partners-next n p p' r e f a = record {
-    has = λ j i b l m. has j i b l m (ℕ_discrete j (n + 1));
-    only = λ i b t. ⊎_elim (λ s. f.only i b s) (λ m. record { from = n + 1; targets = subst (λ (x : Rec). Targets H x i b) e m }) (a.only i b t);
-  }
-    where
-      has : (j i b : ℕ) → j ≤ n + 1 → Targets H (at its j) i b → Dec (j ≡ n + 1) → test_bit (get_or p' i 0) b ≡ true
-      has j i b l m (yes q) = a.has i b (subst (λ (x : Rec). Targets H x i b) (ap (at its) q ∙ sym e) m)
-      has j i b l m (no q) = a.keeps i b (f.has j i b (omega arith) m)
-
--- a contract that says Partners of all records fixes every bit
-pub partners-same : {its : List Rec} {H : ℕ → ℕ → Bool} {p q : List ℕ} → Partners its H (length its) p → Partners its H (length its) q → (i b : ℕ) → test_bit (get_or p i 0) b ≡ test_bit (get_or q i 0) b
-partners-same {its} {H} f g i b = bool_iff _ _ (into f g) (into g f)
+-- a record that targets is one of those there are
+pub targeted-in : {its : List Rec} {H : ℕ → ℕ → Bool} {i b : ℕ} (s : TargetedBy its H i b) → s.from ≤ length its
+targeted-in {its} s = go (dec_le s.from (length its))
   where
-    within : (s : TargetedBy its H i b) → Dec (s.from ≤ length its) → s.from ≤ length its
-    within s (yes l) = l
-    within s (no l) = let k = cap-bounds _ s.targets.capable in absurd (omega (arith, k.0, ap (λ (r : Rec). r.kind) (at-over its s.from (omega arith))))
+    go : Dec (s.from ≤ length its) → s.from ≤ length its
+    go (yes l) = l
+    go (no l) = let k = cap-bounds _ s.targets.capable in absurd (omega (arith, k.0, ap (λ (r : Rec). r.kind) (at-over its s.from (omega arith))))
 
-    into : {x y : List ℕ} → Partners its H (length its) x → Partners its H (length its) y → test_bit (get_or x i 0) b ≡ true → test_bit (get_or y i 0) b ≡ true
-    into c d t = let s = c.only i b t in d.has s.from i b (within s (dec_le s.from (length its))) s.targets
+module _ (its : List Rec) (H : ℕ → ℕ → Bool) where
+  pub added-start : (p : List ℕ) → AddedTo its H 0 p p
+  added-start p = adds_none (λ i b q.
+      let k = cap-bounds _ q.0.targets.capable in
+      let e : (at its q.0.from).kind ≡ 0 = ap (λ (r : Rec). r.kind) (ap (at its) (omega (arith, q.1)) ∙ at-root its) in
+      omega arith)
+
+  pub added-next : (n : ℕ) {p p₁ p₂ : List ℕ} (r : Rec) → r ≡ at its (n + 1) → AddedTo its H n p p₁ → PartnersAdded H r p₁ p₂ → AddedTo its H (n + 1) p p₂
+  added-next n r e f a = adds-next f a (λ i b q. go i b q (ℕ_discrete q.0.from (n + 1))) (λ i b m. record { from = n + 1; targets = subst (λ (x : Rec). Targets H x i b) e m })
+    where
+      go : (i b : ℕ) (q : (s : TargetedBy its H i b) × (s.from ≤ n + 1)) → Dec (q.0.from ≡ n + 1) → ((s : TargetedBy its H i b) × (s.from ≤ n)) ⊎ Targets H r i b
+      go i b q (yes x) = inr (subst (λ (y : Rec). Targets H y i b) (ap (at its) x ∙ sym e) q.0.targets)
+      go i b q (no x) = inl (q.0, omega (arith, q.1))
+
+-- words that were clear hold no others
+pub partners-of : {its : List Rec} {H : ℕ → ℕ → Bool} {p p' : List ℕ} (n : ℕ) → ((i : ℕ) → get_or p i 0 ≡ 0) → AllAdded its H p p' → Partners its H n p'
+partners-of n z a = record {
+  has = λ j i b l m. a.has i b (record { from = j; targets = m });
+  only = λ i b t. ⊎_elim (λ s. absurd (true≢false (sym s ∙ ap (λ (x : ℕ). test_bit x b) (z i) ∙ zero_bit b))) (λ s. s) (a.only i b t);
+}
 
 -- H of the table w, transposed into the clear words z
 module _ {its : List Rec} (wf : WellFormed its) (w z bearers : List ℕ) (zero : (i : ℕ) → get_or z i 0 ≡ 0) (a : Adds (Transposed w 128 1 64) (Transposed w 128 1 64) z bearers) where
@@ -136,17 +137,17 @@ module _ {its : List Rec} (wf : WellFormed its) (w z bearers : List ℕ) (zero :
   unfolding place_h
   names-word b n h = at-word w (128 + 1 * b) n (8192 + (64 * b + n)) h (omega arith)
 
-  pub partners-in_h : (n : ℕ) (p : List ℕ) → Partners its (borne bearers) n p → Partners its (in_h w) n p
-  partners-in_h n p f = record {
-    has = λ j i b l m.
-        let h = (capability-form (at its j) (wf.shaped j) m.capable).name in
-        f.has j i b l (record { capable = m.capable; here = m.here; below = m.below; names = a.has _ b (record { label = h; below = m.below; bit = sym (names-word b _ h) ∙ m.names }) });
-    only = λ i b t.
-        let s = f.only i b t in
-        let m = s.targets in
-        let o = transposed-bit w 128 1 z bearers zero a _ b m.names in
-        record { from = s.from; targets = record { capable = m.capable; here = m.here; below = m.below; names = names-word b _ o.label ∙ o.bit } };
-  }
+  pub added-end : (n : ℕ) {p p' : List ℕ} → length its ≤ n → AddedTo its (borne bearers) n p p' → AllAdded its (in_h w) p p'
+  added-end n l f = adds-as f
+      (λ i b s.
+      let m = s.targets in
+      let h = (capability-form (at its s.from) (wf.shaped s.from) m.capable).name in
+      let t : Targets (borne bearers) (at its s.from) i b = record { capable = m.capable; here = m.here; below = m.below; names = a.has _ b (record { label = h; below = m.below; bit = sym (names-word b _ h) ∙ m.names }) } in
+      (record { from = s.from; targets = t }, omega (arith, l, targeted-in s)))
+      (λ i b s.
+      let m = s.targets in
+      let o = transposed-bit w 128 1 z bearers zero a _ b m.names in
+      record { from = s.from; targets = record { capable = m.capable; here = m.here; below = m.below; names = names-word b _ o.label ∙ o.bit } })
 
 -- ---- the rules
 

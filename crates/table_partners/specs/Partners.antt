@@ -35,6 +35,14 @@ pub record TargetedBy (its : List Rec) (H : ℕ → ℕ → Bool) (i b : ℕ) : 
   pub from : ℕ
   pub targets : Targets H (at its from) i b
 
+-- p' is p with those of all records
+abbrev pub AllAdded : List Rec → (ℕ → ℕ → Bool) → List ℕ → List ℕ → Type 0
+AllAdded its H p p' = Adds (TargetedBy its H) (TargetedBy its H) p p'
+
+-- p' is p with those of the first n records
+abbrev pub AddedTo : List Rec → (ℕ → ℕ → Bool) → ℕ → List ℕ → List ℕ → Type 0
+AddedTo its H n p p' = Adds (λ i b. (s : TargetedBy its H i b) × (s.from ≤ n)) (TargetedBy its H) p p'
+
 -- p has the partners of the records up to number n, and no others
 pub record Partners (its : List Rec) (H : ℕ → ℕ → Bool) (n : ℕ) (p : List ℕ) : Type 0 where
   pub has : (j i b : ℕ) → j ≤ n → Targets H (at its j) i b → test_bit (get_or p i 0) b ≡ true

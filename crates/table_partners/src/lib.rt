@@ -1,12 +1,12 @@
 // The partners of an itinerary's capabilities, folded into words: 64 labels to each of three kinds.
 #![tactic(auto)]
 
-ghost use Rattle.std.specs.Prelude.{◌≡◌, ◌-◌, ◌*◌, ℕ, get_or, true};
+ghost use Rattle.std.specs.Prelude.{◌≡◌, ◌-◌, ◌*◌, true};
 ghost use Rattle.model.specs.Validity.{shape, validity};
-ghost use Rattle.model.specs.Records.{count, records};
+ghost use Rattle.model.specs.Records.{records};
 ghost use Rattle.model.specs.Refusals.{pass};
 ghost use Rattle.model.specs.Scripts.{kind_of};
-ghost use Rattle.table_partners.specs.Partners.{Partners, PartnersAdded, borne, in_h};
+ghost use Rattle.table_partners.specs.Partners.{AllAdded, PartnersAdded, borne, in_h};
 
 use model::{Capability, Rec};
 use records::Itinerary;
@@ -38,11 +38,10 @@ fn add_partners(r: Rec, bearers: &Columns, partners: &mut Kinds)
     partners[slot] |= bearers[name];
 }
 
-// The partners of all capabilities, by the names in H of the table w. (`valid` is what the itinerary's type says, for those who
-// only pass it on.)
+// Adds the partners of all capabilities, by the names in H of the table w. (`valid` is what the itinerary's type says, for those
+// who only pass it on.)
 pub fn partners_of(it: &Itinerary, w: &Words, partners: &mut Kinds)
-    requires { (i : ℕ) → get_or partners.old i 0 ≡ 0 }
-    ensures partners { Partners (records it.now) (in_h w.now) (count it.now) partners.new }
+    ensures partners { AllAdded (records it.now) (in_h w.now) partners.old partners.new }
     ensures valid { validity it.now ≡ pass }
 {
     let mut bearers = [0u64; table_words::BITS];

@@ -14,16 +14,13 @@ use Rattle.table_rules.specs.Tests.{Decides, InOutHeld, OpenHeld, PairHeld, RowH
 use Rattle.model.specs.Analysis.{only_if}
 use Rattle.model.specs.Finite.{every}
 use Rattle.model.proofs.Laws.Bit.{or-bit, or_same, same_or, zero_bit}
-use Rattle.model.proofs.Laws.Bytes.{length-records, valid-wf}
 use Rattle.model.proofs.Laws.Booleans.{and_left, and-make, and_right, bool_iff, only_if-make, only_if-use, or_cases}
 use Rattle.model.proofs.Laws.Done.{cap-alive}
 use Rattle.model.proofs.Laws.Finite.{every-make, every-use}
 use Rattle.model.proofs.Laws.Sets.{Narrow}
 use Rattle.model.proofs.Laws.WellFormed.{WellFormed, alive-in}
-use Rattle.model.specs.Records.{count, records}
-use Rattle.model.specs.Refusals.{pass}
 use Rattle.model.specs.Tables.{Table, bit_at, bits, parts, place_i, place_s, test_bit}
-use Rattle.model.specs.Validity.{validity}
+use Rattle.model.specs.declared.Rec.{Rec}
 use Rattle.table_partners.specs.Partners.{Partners, in_h}
 use Rattle.table_partners.specs.Laws.{closed-rule, rules-closed}
 use Rattle.tables.specs.Grow.{Set}
@@ -52,20 +49,16 @@ module _ (partners m : List ℕ) (u : Set) (M : Movers partners u m) where
         opens = λ t. (r.opens t, λ sb. (s sb).opens t);
       }
 
--- the answer of the rules' test: w is the table t in words, p its partners, m its movers
-pub rules-by : (s t w p m : List ℕ) (r : Bool) → validity s ≡ pass → Bits w ≡ bits t → Partners (records s) (in_h w) (count s) p → Movers p (Bits w) m →
-    Decides r ((q : ℕ) → q < 64 → RowHeld m (Bits w) q) → Decides r (AllRules (records s) (bits t))
-rules-by s t w p m r v e F M d = subst (λ (x : Set). Decides r (AllRules (records s) x)) e (record {
-  holds = λ x j k q. closed-rule wf (in_h w) (length (records s)) p folded (Bits w) (λ b n lb ln h. h) (pairs-closed p m (Bits w) M (d.holds x)) j k
-      (alive-in (records s) j (cap-alive (records s) j k q)) q;
-  passes = λ f. d.passes (closed-pairs p m (Bits w) M (rules-closed wf (in_h w) (length (records s)) p folded (Bits w) (λ b n lb ln h. h) f));
-})
-  where
-    wf : WellFormed (records s)
-    wf = valid-wf s v
+-- the answer of the rules' test: m has the movers of the partners p
+pub closed-by : (p w m : List ℕ) (r : Bool) → Movers p (Bits w) m → Decides r ((q : ℕ) → q < 64 → RowHeld m (Bits w) q) → Decides r (RulesClosed p (Bits w))
+closed-by p w m r M d = record { holds = λ x. pairs-closed p m (Bits w) M (d.holds x); passes = λ f. d.passes (closed-pairs p m (Bits w) M f) }
 
-    folded : Partners (records s) (in_h w) (length (records s)) p
-    folded = subst (λ (n : ℕ). Partners (records s) (in_h w) n p) (sym (length-records s)) F
+-- and so of the records whose partners they are: w is the table t in words
+pub rules-by : {its : List Rec} (t w p : List ℕ) (r : Bool) → WellFormed its → Bits w ≡ bits t → Partners its (in_h w) (length its) p → Decides r (RulesClosed p (Bits w)) → Decides r (AllRules its (bits t))
+rules-by {its} t w p r wf e F d = subst (λ (x : Set). Decides r (AllRules its x)) e (record {
+  holds = λ x j k q. closed-rule wf (in_h w) (length its) p F (Bits w) (λ b n lb ln h. h) (d.holds x) j k (alive-in its j (cap-alive its j k q)) q;
+  passes = λ f. d.passes (rules-closed wf (in_h w) (length its) p F (Bits w) (λ b n lb ln h. h) f);
+})
 
 -- ---- rows, as parts of the table that are lent
 

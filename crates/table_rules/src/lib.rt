@@ -7,7 +7,7 @@ ghost use Rattle.std.specs.Prelude.{◌≡◌, ℕ, ◌<◌};
 ghost use Rattle.model.specs.Records.{records};
 ghost use Rattle.model.specs.Tables.{bits, parts};
 ghost use Rattle.table_words.specs.BitSets.{Bits};
-ghost use Rattle.table_partners.specs.Rules.{AllRules};
+ghost use Rattle.table_partners.specs.Rules.{AllRules, RulesClosed};
 ghost use Rattle.table_rules.specs.Tests.{Decides, InOutHeld, PairHeld, RowHeld, Within, open_holds};
 
 use records::Itinerary;
@@ -89,6 +89,21 @@ fn row_holds(table: &Table, w: &Words, movers: &Kinds, p: usize) -> bool
     true
 }
 
+// Whether the rules of these partners hold; w is the table in words.
+pub fn closed(table: &Table, w: &Words, partners: &Kinds) -> bool
+    requires { Bits w.now ≡ bits table.now }
+    ensures { Decides result (RulesClosed partners.now (Bits w.now)) }
+{
+    let mut movers = [0u64; table_words::KIND_WORDS];
+    table_movers::movers_of(w, partners, &mut movers);
+    for p in 0..64 {
+        if !row_holds(table, w, &movers, p) {
+            return false;
+        }
+    }
+    true
+}
+
 // Whether the rules of all capabilities hold.
 pub fn rules_hold(it: &Itinerary, table: &Table) -> bool
     ensures { Decides result (AllRules (records it.now) (bits table.now)) }
@@ -97,12 +112,5 @@ pub fn rules_hold(it: &Itinerary, table: &Table) -> bool
     table_words::load(table, &mut w);
     let mut partners = [0u64; table_words::KIND_WORDS];
     table_partners::partners_of(it, &w, &mut partners);
-    let mut movers = [0u64; table_words::KIND_WORDS];
-    table_movers::movers_of(&w, &partners, &mut movers);
-    for p in 0..64 {
-        if !row_holds(table, &w, &movers, p) {
-            return false;
-        }
-    }
-    true
+    closed(table, &w, &partners)
 }

@@ -122,7 +122,7 @@ list_answer s table text = told (listable s table) (list_of (records s) (suspect
 unfoldable pub list_after : List ℕ → List ℕ → List ℕ → List ℕ
 list_after s table text = told_after (listable s table) (list_of (records s) (suspects table)) text
 
--- what hubshow and hublist write: the text, and other bytes where they are refused
+-- what hubshow, hublist and hubjoin write: the text or bytes, and others where they are refused
 unfoldable pub text_or : List ℕ → Check → List ℕ → List ℕ
 text_or other pass w = w
 text_or other (refuse n r) w = other

@@ -1,5 +1,5 @@
-// Telling a refusal in words, on standard error, for the programs that write an itinerary as text: there a refusal never
-// stands in the text.
+// Telling a refusal in words, on standard error, for the programs that write an itinerary as text or bytes: there a refusal
+// never stands in what they write.
 #![tactic(auto)]
 
 use model::Refusal;

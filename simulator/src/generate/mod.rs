@@ -6,5 +6,6 @@ pub mod examples;
 pub mod policies;
 pub mod relabel;
 pub mod scripts;
+pub mod sets;
 pub mod tables;
 pub mod trees;

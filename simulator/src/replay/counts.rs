@@ -1,5 +1,6 @@
 //! How often each call got each answer, and which answers must turn up.
 
+use super::join_words;
 use super::moves_cases::LONGEST;
 use super::stream::{Buffer, Buffers, Call};
 use crate::answer::Answer;
@@ -20,10 +21,13 @@ impl Counts {
     pub fn note(&mut self, call: Call, x: u16, answer: &Answer, before: &Buffers, after: &Buffers) {
         self.add(call, format!("{:2}", answer.number));
         if call != Call::Row {
-            self.add_clients(call, x, answer, before.get(Buffer::Itinerary));
+            self.add_clients(call, x, answer, looked_at(call, before, after));
         }
         if call == Call::Moves {
             self.add_room(answer.number, after);
+        }
+        if call == Call::Join {
+            join_words::met(before, answer).into_iter().for_each(|word| self.add(call, word));
         }
         if answer.number != 0 {
             return;
@@ -202,6 +206,14 @@ impl Counts {
     }
 }
 
+/// The itinerary that an answer is about: of a join the member that is refused, or what was joined.
+fn looked_at<'a>(call: Call, before: &'a Buffers, after: &'a Buffers) -> &'a [u8] {
+    match call {
+        Call::Join => join_words::refused_member(before).unwrap_or(after.get(Buffer::Joined)),
+        _ => before.get(Buffer::Itinerary),
+    }
+}
+
 /// What is wrong with the client of a record that is refused with 2, if its client is all that 2 is about.
 fn refused_clients(record: &[u8]) -> Vec<&'static str> {
     let client = u16::from_le_bytes([record[6], record[7]]);
@@ -319,6 +331,7 @@ fn reachable(call: Call) -> Vec<String> {
         Call::Row => return vec![" 0".to_string(), " 0 empty part".to_string()],
         Call::Screen => &[7, 13],
         Call::Moves => &[15],
+        Call::Join => &[7, 8, 9, 16],
     };
     let mut all: Vec<String> =
         (0..=6).chain(numbers.iter().copied()).map(|number: u8| format!("{number:2}")).collect();
@@ -331,6 +344,9 @@ fn reachable(call: Call) -> Vec<String> {
     }
     if call == Call::Climb {
         all.extend(CLIMBS.map(|word| format!(" 0 {word}")));
+    }
+    if call == Call::Join {
+        all.extend(join_words::wanted());
     }
     if call == Call::Exposed {
         let words = ["yes, by row 0", "yes, rows away", "no, hinted", "no, sealed", "no, behind a boundary"];

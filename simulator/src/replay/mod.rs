@@ -5,6 +5,8 @@ pub mod climb_cases;
 pub mod counts;
 pub mod exposed_cases;
 pub mod itinerary_cases;
+pub mod join_cases;
+pub mod join_words;
 pub mod moves_cases;
 pub mod player;
 pub mod screen_cases;
@@ -20,11 +22,12 @@ use writer::Writer;
 /// A set of cases: its name on the command line, what writes it, and its calls.
 pub type Section = (&'static str, fn(&mut Writer, &mut Random, Size), &'static [Call]);
 
-pub const SECTIONS: [Section; 4] = [
+pub const SECTIONS: [Section; 5] = [
     ("itinerary", itinerary_cases::write, &itinerary_cases::CALLS),
     ("table", table_cases::write, &table_cases::CALLS),
     ("screen", screen_cases::write, &screen_cases::CALLS),
     ("moves", moves_cases::write, &moves_cases::CALLS),
+    ("join", join_cases::write, &join_cases::CALLS),
 ];
 
 /// How much is written: everything, or a sample of a few dozen kilobytes.

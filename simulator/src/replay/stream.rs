@@ -27,10 +27,17 @@ pub enum Buffer {
     Answers,
     Sheet,
     List,
+    Second,
+    Third,
+    Fourth,
+    Joined,
 }
 
+/// The four itineraries that a join is lent, in their order.
+pub const MEMBERS: [Buffer; 4] = [Buffer::Itinerary, Buffer::Second, Buffer::Third, Buffer::Fourth];
+
 impl Buffer {
-    pub const ALL: [Buffer; 7] = [
+    pub const ALL: [Buffer; 11] = [
         Buffer::Itinerary,
         Buffer::Policy,
         Buffer::Table,
@@ -38,6 +45,10 @@ impl Buffer {
         Buffer::Answers,
         Buffer::Sheet,
         Buffer::List,
+        Buffer::Second,
+        Buffer::Third,
+        Buffer::Fourth,
+        Buffer::Joined,
     ];
 
     pub fn of_number(number: u8) -> Option<Buffer> {
@@ -59,10 +70,11 @@ pub enum Call {
     Screen,
     Exposed,
     Moves,
+    Join,
 }
 
 impl Call {
-    pub const ALL: [Call; 12] = [
+    pub const ALL: [Call; 13] = [
         Call::Validate,
         Call::Climb,
         Call::Sheet,
@@ -75,6 +87,7 @@ impl Call {
         Call::Screen,
         Call::Exposed,
         Call::Moves,
+        Call::Join,
     ];
 
     pub fn of_code(code: u8) -> Option<Call> {
@@ -82,10 +95,10 @@ impl Call {
     }
 }
 
-/// The seven buffers; buffer number k is `contents[k - 1]`.
+/// The eleven buffers; buffer number k is `contents[k - 1]`.
 #[derive(Clone, Debug, Default, PartialEq, Eq)]
 pub struct Buffers {
-    pub contents: [Vec<u8>; 7],
+    pub contents: [Vec<u8>; 11],
 }
 
 impl Buffers {
@@ -100,7 +113,8 @@ impl Buffers {
 
 /// Makes the call on the buffers.
 pub fn perform(law: Law, call: Call, x: u16, y: u16, buffers: &mut Buffers) -> Answer {
-    let [itinerary, policy, table, script, answers, sheet, list] = &mut buffers.contents;
+    let [itinerary, policy, table, script, answers, sheet, list, second, third, fourth, joined] =
+        &mut buffers.contents;
     let outcome = match call {
         Call::Validate => calls::validate(itinerary),
         Call::Climb => calls::climb(itinerary, policy, x),
@@ -114,6 +128,7 @@ pub fn perform(law: Law, call: Call, x: u16, y: u16, buffers: &mut Buffers) -> A
         Call::Screen => calls::screen(law, itinerary, policy, script, answers),
         Call::Exposed => calls::exposed(law, itinerary, policy, table),
         Call::Moves => calls::moves(law, itinerary, list),
+        Call::Join => calls::join(law, [itinerary, second, third, fourth], policy, table, joined),
     };
     outcome.into()
 }

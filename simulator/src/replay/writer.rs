@@ -147,7 +147,9 @@ impl Writer {
             put_head(&mut command, SET_ZEROS, buffer as u8, content.len());
         } else if buffer == Buffer::Table {
             command = self.shortest_table(content, command);
-        } else if buffer == Buffer::List && content.iter().all(|&byte| byte == content[0]) {
+        } else if matches!(buffer, Buffer::List | Buffer::Joined)
+            && content.iter().all(|&byte| byte == content[0])
+        {
             command.clear();
             put_head(&mut command, FILL, buffer as u8, content.len());
             command.push(content[0]);

@@ -10,6 +10,7 @@
 pub mod files;
 pub mod pairs;
 pub mod search;
+pub mod sets;
 pub mod shrink;
 pub mod text;
 

@@ -11,7 +11,7 @@ use crate::record::{Itinerary, Kind, Record};
 use crate::table::{close, hidden, least, Policy, Table, BOUNDARY, HIGH, LOW};
 
 /// Few labels and names, so that things meet; most of it inside boundaries.
-fn draw_mix(random: &mut Random) -> Mix {
+pub(super) fn draw_mix(random: &mut Random) -> Mix {
     Mix {
         records: random.pick(&[4, 5, 6, 7, 8, 10, 12, 16]),
         gone: random.pick(&[0, 10, 25]),
@@ -26,7 +26,7 @@ fn draw_mix(random: &mut Random) -> Mix {
     }
 }
 
-fn draw_policy(random: &mut Random) -> Policy {
+pub(super) fn draw_policy(random: &mut Random) -> Policy {
     let mut policy = [LOW; 64];
     policy[1] = BOUNDARY;
     policy[2] = HIGH;
@@ -44,6 +44,17 @@ pub fn draw(random: &mut Random, law: Law) -> Option<Case> {
     guard(random, &mut x);
     let hiding = least(law, &[&x], &policy);
     let y = change_hidden(random, &mix, &x, &hiding)?;
+    complete(random, law, x, y, policy)
+}
+
+/// The case with a table for both and steps, if it is as supposed and something can happen in it.
+pub(super) fn complete(
+    random: &mut Random,
+    law: Law,
+    x: Itinerary,
+    y: Itinerary,
+    policy: Policy,
+) -> Option<Case> {
     if x == y && random.chance(90) {
         return None;
     }
@@ -78,7 +89,7 @@ pub fn give_clients(random: &mut Random, case: &mut Case) {
 }
 
 /// Puts boundaries outside and high ambients inside, else few cases are sealed.
-fn guard(random: &mut Random, x: &mut Itinerary) {
+pub(super) fn guard(random: &mut Random, x: &mut Itinerary) {
     let high = random.pick(&[10, 35]);
     for record in x.records.iter_mut().filter(|record| record.kind == Kind::Ambient) {
         if record.parent == 0 && random.chance(85) {
@@ -90,7 +101,12 @@ fn guard(random: &mut Random, x: &mut Itinerary) {
 }
 
 /// The same itinerary with the hidden part changed here and there.
-fn change_hidden(random: &mut Random, mix: &Mix, x: &Itinerary, table: &Table) -> Option<Itinerary> {
+pub(super) fn change_hidden(
+    random: &mut Random,
+    mix: &Mix,
+    x: &Itinerary,
+    table: &Table,
+) -> Option<Itinerary> {
     let mut y = x.clone();
     let many = random.pick(&[15, 40, 80]);
     for number in x.numbers() {

@@ -57,8 +57,11 @@ impl Tally {
     }
 }
 
+/// What draws a case that may be supposed.
+pub type Draw = fn(&mut Random, Law) -> Option<Case>;
+
 /// Draws that many pairs; gives the smallest counterexample, shrunk, if any.
-pub fn search(law: Law, seed: u64, count: u64) -> (Option<Case>, Tally) {
+pub fn search(law: Law, draw: Draw, seed: u64, count: u64) -> (Option<Case>, Tally) {
     let mut random = Random::new(seed);
     // Clients are drawn by themselves, so that all else is drawn as it would be without them.
     let mut clients = Random::new(!seed);
@@ -66,7 +69,7 @@ pub fn search(law: Law, seed: u64, count: u64) -> (Option<Case>, Tally) {
     let mut best: Option<Case> = None;
     for _ in 0..count {
         tally.drawn += 1;
-        let Some(mut case) = pairs::draw(&mut random, law) else { continue };
+        let Some(mut case) = draw(&mut random, law) else { continue };
         pairs::give_clients(&mut clients, &mut case);
         tally.note(law, &case);
         if case.false_parts(law).is_empty() {

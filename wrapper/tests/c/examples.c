@@ -93,15 +93,15 @@ static void helpers(void)
 
 static void causes(void)
 {
-    const char *unknown = hub_cause(16);
+    const char *unknown = hub_cause(17);
     uint32_t number, other;
     int alike = 0;
     expect("done has a word", strcmp(hub_cause(HUB_DONE), "done") == 0);
     expect("6 in words", strcmp(hub_cause(HUB_REFUSED_CLIMB), "climbing doesn't reach 0") == 0);
     expect("a number that is none", strcmp(unknown, "unknown cause") == 0);
     expect("a number far away", strcmp(hub_cause(0xffffffffu), unknown) == 0);
-    for (number = HUB_DONE; number <= HUB_REFUSED_LIST; number++) {
-        for (other = number + 1; other <= HUB_REFUSED_LIST + 1; other++) {
+    for (number = HUB_DONE; number <= HUB_REFUSED_SET; number++) {
+        for (other = number + 1; other <= HUB_REFUSED_SET + 1; other++) {
             alike += strcmp(hub_cause(number), hub_cause(other)) == 0;
         }
     }
@@ -159,6 +159,7 @@ static void refusals(void)
     HubExposedResult asked;
     HubRunResult ran;
     HubMovesResult listed;
+    HubJoinResult joined;
     HubScreenResult screened;
     expect("seven bytes", REFUSED(climbed, HUB_REFUSED_LENGTH, 0));
     climbed = hub_climb(example, two, usual, 63, 2);
@@ -182,6 +183,12 @@ static void refusals(void)
     expect("too many answers", REFUSED(ran, HUB_REFUSED_SCRIPT, 0));
     listed = hub_moves(work, sizeof work, bytes, HUB_STEP_LENGTH - 1);
     expect("a short list", REFUSED(listed, HUB_REFUSED_LIST, 0));
+    joined = hub_join(example, two, work, 0, work, 0, work, 0, usual, 63, table, 0, bytes, two + 1);
+    expect("a buffer longer than what is joined", REFUSED(joined, HUB_REFUSED_SET, 0));
+    joined = hub_join(example, 8, example + 8, 8, work, 0, work, 0, usual, 63, table, 0, bytes, two + 1);
+    expect("a member whose parent is another's", REFUSED(joined, HUB_REFUSED_CLIMB, 1));
+    joined = hub_join(work, 0, work, 0, work, 0, work, two, usual, sizeof usual, table, sizeof table, bytes, two);
+    expect("a table that doesn't hold for the fourth", REFUSED(joined, HUB_REFUSED_HOLDS, 0));
     screened = hub_screen(work, sizeof work, usual, 63, script, sizeof script, bytes, 1);
     expect("a refused screen", REFUSED(screened, HUB_REFUSED_POLICY, 0));
     expect("nothing is written", memcmp(work, example, sizeof work) == 0 && bytes[0] == 7 && bytes[1] == 7);
@@ -233,6 +240,27 @@ static void example_b(void)
     expect("B: its steps and records", screened.outs == 1 && screened.records == 2);
     expect("B: the screen's answers", answers[0] == HUB_DONE && answers[1] == HUB_REFUSED_ACTOR);
     expect("B: the screen's itinerary", memcmp(work, after, sizeof work) == 0);
+}
+
+/* A, nothing, B and A again: seven records. */
+static void a_joined_with_b(void)
+{
+    uint8_t joined[7 * HUB_RECORD_LENGTH], none[1];
+    HubJoinResult done;
+    HubMakeResult made = hub_make(example, sizeof example, usual, sizeof usual, table, sizeof table);
+    HubCheckResult checked;
+    HubRecord moved;
+    memset(joined, 7, sizeof joined);
+    done = hub_join(example, two, none, 0, example, sizeof example, example, two, usual, sizeof usual, table,
+                    sizeof table, joined, sizeof joined);
+    expect("A, B and A are joined", DONE(made) && DONE(done));
+    expect("A comes first", memcmp(joined, example, two) == 0);
+    expect("parent 0 stays", memcmp(joined + record_at(3), example, HUB_RECORD_LENGTH) == 0);
+    moved = hub_read_record(joined + record_at(5));
+    expect("B's capability in B's record 2", moved.kind == HUB_OUT && moved.parent == 4);
+    expect("A's record 2 in A's record 1", hub_read_record(joined + record_at(7)).parent == 6);
+    checked = hub_check(joined, sizeof joined, usual, sizeof usual, table, sizeof table);
+    expect("the check agrees", DONE(checked));
 }
 
 static void example_c(void)
@@ -315,6 +343,7 @@ int main(void)
     example_a();
     refusals();
     example_b();
+    a_joined_with_b();
     example_c();
     example_e();
     example_g();

@@ -1,0 +1,3 @@
+-- What the program writes, and its laws.
+pub mod Joined
+pub mod Laws
