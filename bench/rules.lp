@@ -1,6 +1,6 @@
 % The least table of an itinerary, as rules. Facts: record(Number, Kind, Label, Name,
 % Parent) for each record that is not gone, with kinds 1 ambient, 2 in, 3 out,
-% 4 open; high(Label) for each high label.
+% 4 open, 5 copier; high(Label) for each high label.
 
 #defined record/5.
 #defined high/1.
@@ -10,10 +10,10 @@ container(R, 0) :- record(R, _, _, _, 0).
 container(R, L) :- record(R, _, _, _, P), record(P, 1, L, _, _).
 container(R, C) :- record(R, _, _, _, P), record(P, K, _, _, _), K > 1, container(P, C).
 
-capability(K, T, N) :- record(_, K, T, N, _), K > 1.
+capability(K, T, N) :- record(_, K, T, N, _), K > 1, K < 5.
 
 % What the itinerary and the policy ask for.
-i(C, L) :- record(R, _, L, _, _), container(R, C).
+i(C, L) :- record(R, K, L, _, _), K < 5, container(R, C).
 h(L, N) :- record(_, 1, L, N, _).
 s(L) :- high(L).
 

@@ -54,12 +54,12 @@
  *
  *  itinerary  0 to 1,024 records of 8 bytes, numbered from 1; number 0 is the
  *             environment.
- *               byte 0        kind: 0 gone, 1 ambient, 2 in, 3 out, 4 open;
- *                             kinds 2 to 4 are capabilities
+ *               byte 0        kind: 0 gone, 1 ambient, 2 in, 3 out, 4 open,
+ *                             5 copier; kinds 2 to 4 are capabilities
  *               byte 1        label: 1 to 63 on an ambient, 64 to 127 on a
- *                             capability
+ *                             capability, 0 on a copier
  *               byte 2        name, 0 to 63: an ambient bears it, a
- *                             capability targets it
+ *                             capability targets it; 0 on a copier
  *               byte 3        zero
  *               bytes 4, 5    the parent's number, low byte first: 0 or a
  *                             record that is not gone
@@ -91,14 +91,18 @@
  *
  *  above      Reached by climbing from parent to parent; the record itself is
  *             not counted.
+ *  beneath    A record is beneath those above it.
  *  children   The records that have this one as parent: what stands directly
- *             in an ambient, in parallel, and what follows a capability.
+ *             in an ambient, in parallel, what follows a capability, and what
+ *             a copier copies with all that is beneath it.
  *  container  Of a record: the label of the nearest ambient above it, or 0.
+ *             Capabilities and copiers on the way are passed.
  *  boundary ambient
  *             An ambient whose label is boundary in the policy. The nearest one
- *             above a record is the first met by climbing; capabilities and
- *             other ambients on the way are passed.
- *  active     A capability is active when all records above it are ambients.
+ *             above a record is the first met by climbing; capabilities,
+ *             copiers and other ambients on the way are passed.
+ *  active     A capability or a copier is active when all records above it are
+ *             ambients.
  *  suspect    A label is suspect when it is in S; high or boundary as the
  *             policy has it. An ambient is suspect, high or boundary as its
  *             label is.
@@ -143,6 +147,16 @@
  * Then c's children go to c's parent, and c becomes gone. No other byte
  * changes. A boundary never stops a step.
  *
+ * COPYING
+ *
+ * Nothing beneath a copier acts: it can be copied, again and again, to act
+ * beside the copier. A copy is made of all records beneath an active copier,
+ * of copiers and what is beneath these too. The k-th of them by number goes
+ * into the k-th gone record by number, with its kind, label, name and client.
+ * Its parent there is the copy of its parent or, for a child of the copier,
+ * the copier's parent. The copier stays, and so do all other records.
+ * A table that holds holds after a copy too.
+ *
  * JOINING
  *
  * Itineraries are joined by putting their records one after another and adding
@@ -174,7 +188,8 @@
  * what is passed without `const`, as said with the call, and nothing else.
  *
  * Causes are looked for in this order, as far as the call has them: 1; then
- * record by record 2, 3, 4, 5; then 6, 16, 7, 8, 13, 14, 15, 9, 10, 11, 12.
+ * record by record 2, 3, 4, 5; then 6, 16, 17, 18, 7, 8, 13, 14, 15, 9, 10, 11,
+ * 12.
  * Where itineraries are joined, 1 to 6 are looked for in the first member, then
  * in the second, the third and the fourth; `record` is counted within the
  * member, and which one it is isn't told.
@@ -205,7 +220,7 @@ extern "C" {
 #endif
 
 /* The version of this header; see VERSION above. */
-#define HUB_VERSION 0x030100u
+#define HUB_VERSION 0x040000u
 
 /* Lengths in bytes, and how many records and steps there can be. */
 #define HUB_RECORD_LENGTH 8
@@ -223,7 +238,14 @@ extern "C" {
 #define HUB_STACK 32768
 
 /* Byte 0 of a record. */
-enum { HUB_GONE = 0, HUB_AMBIENT = 1, HUB_IN = 2, HUB_OUT = 3, HUB_OPEN = 4 };
+enum {
+    HUB_GONE = 0,
+    HUB_AMBIENT = 1,
+    HUB_IN = 2,
+    HUB_OUT = 3,
+    HUB_OPEN = 4,
+    HUB_COPIER = 5
+};
 
 /* Bytes of a policy. */
 enum { HUB_LOW = 0, HUB_HIGH = 1, HUB_BOUNDARY = 2 };
@@ -240,7 +262,7 @@ enum {
     HUB_REFUSED_LENGTH = 1,  /* the itinerary's */
     HUB_REFUSED_FORM = 2,    /* kind, byte 3, client, gone record not all 0 */
     HUB_REFUSED_LABEL = 3,
-    HUB_REFUSED_NAME = 4,
+    HUB_REFUSED_NAME = 4,    /* a copier's is 0 */
     HUB_REFUSED_PARENT = 5,
     HUB_REFUSED_CLIMB = 6,   /* `record` is the lowest that doesn't reach 0 */
     HUB_REFUSED_POLICY = 7,
@@ -252,7 +274,9 @@ enum {
     HUB_REFUSED_SCRIPT = 13, /* or its answers */
     HUB_REFUSED_SHEET = 14,
     HUB_REFUSED_LIST = 15,   /* shorter than the list */
-    HUB_REFUSED_SET = 16     /* too many records, or the buffer's length */
+    HUB_REFUSED_SET = 16,    /* too many records, or the buffer's length */
+    HUB_REFUSED_COPIER = 17, /* no copier, or not active */
+    HUB_REFUSED_ROOM = 18    /* too few gone records for a copy */
 };
 
 typedef struct HubValidateResult {
@@ -285,6 +309,12 @@ typedef struct HubRunResult {
     uint32_t outs;
     uint32_t opens;
 } HubRunResult;
+
+typedef struct HubCopyResult {
+    uint32_t number;
+    uint32_t record;
+    uint32_t copied;
+} HubCopyResult;
 
 typedef struct HubMovesResult {
     uint32_t number;
@@ -398,6 +428,17 @@ HubStepResult hub_step(uint8_t *itinerary, size_t itinerary_length,
 HubRunResult hub_run(uint8_t *itinerary, size_t itinerary_length,
                      const uint8_t *script, size_t script_length,
                      uint8_t *answers, size_t answers_length);
+
+/*
+ * Copies all records beneath a copier into gone records, as in COPYING.
+ * Done: the itinerary is that after the copy; `copied` is how many records were
+ * copied, 0 if nothing is beneath the copier. So many more records are not gone.
+ * Refuses with 1 to 6, with 17 a number that is no active copier, whatever else
+ * it is, and then with 18 an itinerary that has fewer gone records than records
+ * beneath the copier.
+ */
+HubCopyResult hub_copy(uint8_t *itinerary, size_t itinerary_length,
+                       uint16_t number);
 
 /*
  * Lists what the bench can do next: each pair of actor and partner, both from 1
@@ -582,12 +623,12 @@ static inline const char *hub_cause(uint32_t number)
     case HUB_REFUSED_LENGTH:
         return "itinerary length no multiple of 8, or over 8,192";
     case HUB_REFUSED_FORM:
-        return "kind over 4, byte 3 not 0, a client over 999, or a gone record "
+        return "kind over 5, byte 3 not 0, a client over 999, or a gone record "
                "not all 0";
     case HUB_REFUSED_LABEL:
         return "label wrong for its kind";
     case HUB_REFUSED_NAME:
-        return "name over 63";
+        return "name over 63, or not 0 on a copier";
     case HUB_REFUSED_PARENT:
         return "parent over the record count, or a record of kind 0";
     case HUB_REFUSED_CLIMB:
@@ -615,6 +656,10 @@ static inline const char *hub_cause(uint32_t number)
     case HUB_REFUSED_SET:
         return "over 1,024 records together, or a buffer not of the joined "
                "length";
+    case HUB_REFUSED_COPIER:
+        return "number 0, over the count, or no active copier";
+    case HUB_REFUSED_ROOM:
+        return "fewer gone records than records beneath the copier";
     default:
         return "unknown cause";
     }

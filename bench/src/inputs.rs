@@ -6,7 +6,7 @@ use simulator::generate::clients;
 use simulator::generate::examples::{far_down, runs};
 use simulator::generate::policies;
 use simulator::generate::sets::Set;
-use simulator::generate::trees::{chain, tree, Links, Mix};
+use simulator::generate::trees::{beneath_a_copier, chain, shuffled, tree, Links, Mix};
 use simulator::random::Random;
 use simulator::record::{join, Itinerary, Kind, Record, MOST_RECORDS};
 
@@ -142,6 +142,7 @@ fn wide() -> Mix {
         orders: 64,
         names: 64,
         clients: 0,
+        copiers: 0,
     }
 }
 
@@ -303,6 +304,40 @@ pub fn waiting() -> Lent {
     let mut itinerary = far_down(512, 512);
     itinerary.records[0] = order(Kind::Open, 64, 63, 0);
     Lent::of(&itinerary).with_list()
+}
+
+/// What is copied where half of the records are.
+const HALF: usize = MOST_RECORDS / 2 - 1;
+
+/// A chain of 511 ambients beneath a copier, and gone records.
+pub fn chain_to_copy(reversed: bool) -> Lent {
+    let below = chain(HALF, Links::Ambients, reversed);
+    Lent::of(&beneath_a_copier(&below, MOST_RECORDS - 1 - HALF)).about(HALF as u16 + 1, 1)
+}
+
+/// A tree of 511 records beneath a copier, which has any number, with clients, and gone records between them.
+pub fn random_to_copy() -> Vec<Lent> {
+    let trees = with_clients(several(6, &Mix { records: HALF, ..wide() }));
+    let mut random = Random::new(6);
+    let mut lent = |below: &Itinerary| {
+        let itinerary = shuffled(&mut random, &beneath_a_copier(below, MOST_RECORDS - 1 - HALF));
+        let copier = itinerary.numbers().find(|&number| itinerary.is(Kind::Copier, number));
+        Lent::of(&itinerary).about(copier.unwrap_or(0), 1)
+    };
+    trees.iter().map(&mut lent).collect()
+}
+
+/// So many ambients in one another, in the last of them a copier, beneath that a chain of so many, and gone records.
+pub fn deep_to_copy(above: usize, below: usize, reversed: bool) -> Lent {
+    let Itinerary { mut records } = chain(above, Links::Ambients, reversed);
+    let last = if reversed { 1 } else { above };
+    for record in beneath_a_copier(&chain(below, Links::Ambients, reversed), 0).records {
+        let parent = if record.kind == Kind::Copier { last } else { above + usize::from(record.parent) };
+        records.push(Record { parent: parent as u16, ..record });
+    }
+    let copier = records.len() as u16;
+    records.resize(MOST_RECORDS, Record::GONE);
+    Lent::of(&Itinerary { records }).about(copier, 1)
 }
 
 /// Sets of four with 256 records each.

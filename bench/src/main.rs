@@ -31,9 +31,12 @@ fn main() -> ExitCode {
             kept = rows::print_moves();
             println!();
             kept &= rows::print_joins();
+            println!();
+            kept &= rows::print_copies();
         }
         ["moves"] => kept = rows::print_moves(),
         ["joins"] => kept = rows::print_joins(),
+        ["copies"] => kept = rows::print_copies(),
         ["order"] => rows::print_file_order(),
         ["stack"] => kept = stack::print(),
         ["instructions"] => kept = instructions::print(),
@@ -49,6 +52,8 @@ fn main() -> ExitCode {
             println!();
             kept &= rows::print_joins();
             println!();
+            kept &= rows::print_copies();
+            println!();
             kept &= stack::print();
             println!();
             kept &= instructions::print();
@@ -56,7 +61,7 @@ fn main() -> ExitCode {
             oracle::print(SEED, COUNT);
         }
         _ => {
-            eprintln!("usage: bench [time|order|moves|joins|stack|instructions|clingo]");
+            eprintln!("usage: bench [time|order|moves|joins|copies|stack|instructions|clingo]");
             return ExitCode::from(2);
         }
     }

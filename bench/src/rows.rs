@@ -56,6 +56,15 @@ fn run(name: &'static str, lent: &[Lent]) -> Row {
     )
 }
 
+fn copy(name: &'static str, lent: &[Lent]) -> Row {
+    row(
+        name,
+        lent,
+        |l| birnsket::copy(&mut l.itinerary, l.number),
+        |l| plain::copy(&mut l.itinerary, l.number),
+    )
+}
+
 fn check(name: &'static str, lent: &[Lent]) -> Row {
     row(
         name,
@@ -217,7 +226,7 @@ pub fn print_file_order() {
     }
 }
 
-/// What is asked of moves and joins: at most that many times Rust. And of moves on 1,024 records: at most that many times
+/// What is asked of moves, joins and copies: at most that many times Rust. And of moves on 1,024 records: at most that many times
 /// a loop that compares one byte of all pairs.
 const TIMES_RUST: f64 = 1.3;
 const TIMES_LOOP: f64 = 10.0;
@@ -299,6 +308,24 @@ pub fn print_joins() -> bool {
             row.ratio(),
             again / check
         );
+        kept &= good;
+    }
+    kept
+}
+
+/// Measures and prints the rows of copies, each of 511 records of 1,024; says whether they are as asked.
+pub fn print_copies() -> bool {
+    println!("| call and input | library | Rust | ratio |\n|---|---:|---:|---:|");
+    let mut kept = true;
+    for row in [
+        copy("copy, random", &inputs::random_to_copy()),
+        copy("copy, chain in file order", &[inputs::chain_to_copy(false)]),
+        copy("copy, chain reversed", &[inputs::chain_to_copy(true)]),
+    ] {
+        let (library, plain) = (short(row.library / 1000.0), short(row.plain / 1000.0));
+        let good = row.ratio() <= TIMES_RUST;
+        let word = if good { "" } else { ", TOO MUCH" };
+        println!("| {} | {library} µs | {plain} µs | {:.2}{word} |", row.name, row.ratio());
         kept &= good;
     }
     kept

@@ -138,8 +138,33 @@ pub fn all() -> Vec<Shape> {
         let rest = "no room for a list".to_string();
         shapes.push(Shape { itinerary: name, rest, lent: bare });
     }
+    shapes.extend(copies());
     shapes.extend(sets().into_iter().flat_map(|(name, lent)| with_tables(name, &lent)));
     shapes
+}
+
+/// Copies of 511 records, of a third of all below a third of all, of none below 1,023, and one that is refused for the
+/// gone records; chains in both orders.
+fn copies() -> Vec<Shape> {
+    let mut all = Vec::new();
+    for reversed in [true, false] {
+        let order = if reversed { "reversed" } else { "in file order" };
+        for (above, below) in [(341, 341), (1, 511), (1, 1022), (1023, 0)] {
+            let itinerary = format!("copier of {below} ambients in {above}, {order}");
+            let lent = inputs::deep_to_copy(above, below, reversed);
+            all.push(Shape { itinerary, rest: "the copier".to_string(), lent });
+        }
+    }
+    for (name, several) in
+        [("random", inputs::random_to_copy()), ("chain", vec![inputs::chain_to_copy(true)])]
+    {
+        all.extend(several.into_iter().next().map(|lent| Shape {
+            itinerary: format!("{name} of 511 to copy"),
+            rest: "the copier".to_string(),
+            lent,
+        }));
+    }
+    all
 }
 
 /// Four members of 256 records each: chains in both orders, the last one a ring, and the benchmark's.

@@ -45,13 +45,14 @@ fn depth(lent: &Lent, call: fn(&mut Lent) -> bool) -> usize {
 
 type Measured = (&'static str, fn(&mut Lent) -> bool);
 
-const CALLS: [Measured; 13] = [
+const CALLS: [Measured; 14] = [
     ("validate", |l| birnsket::validate(&l.itinerary).is_ok()),
     ("climb", |l| birnsket::climb(&l.itinerary, &l.policy, l.number).is_ok()),
     ("sheet", |l| birnsket::sheet(&l.itinerary, &l.table, &mut l.sheet).is_ok()),
     ("step", |l| birnsket::step(&mut l.itinerary, l.number, l.partner).is_ok()),
     ("moves", |l| birnsket::moves(&l.itinerary, &mut l.list).is_ok()),
     ("run", |l| birnsket::run(&mut l.itinerary, &l.script, &mut l.answers).is_ok()),
+    ("copy", |l| birnsket::copy(&mut l.itinerary, l.number).is_ok()),
     ("check", |l| birnsket::check(&l.itinerary, &l.policy, &l.table).is_ok()),
     ("join", |l| {
         let (members, policy, table, joined) = l.set();

@@ -11,6 +11,7 @@ pub enum Call {
     Climb(u16),
     Sheet,
     Step(u16, u16),
+    Copy(u16),
     Moves,
     Run,
     Check,
@@ -29,6 +30,7 @@ impl Call {
             Call::Climb(_) => "climb",
             Call::Sheet => "sheet",
             Call::Step(..) => "step",
+            Call::Copy(_) => "copy",
             Call::Moves => "moves",
             Call::Run => "run",
             Call::Check => "check",
@@ -50,7 +52,7 @@ impl Call {
             Call::Validate => &[(Itinerary, false)],
             Call::Climb(_) => &[(Itinerary, false), (Policy, false)],
             Call::Sheet => &[(Itinerary, false), (Table, false), (Sheet, true)],
-            Call::Step(..) => &[(Itinerary, true)],
+            Call::Step(..) | Call::Copy(_) => &[(Itinerary, true)],
             Call::Moves => &[(Itinerary, false), (List, true)],
             Call::Run => &[(Itinerary, true), (Script, false), (Answers, true)],
             Call::Check | Call::Verdict | Call::Exposed => {
@@ -99,6 +101,7 @@ pub fn simulate(call: Call, lent: &mut Buffers) -> Answer {
         Call::Climb(number) => simulator::climb(itinerary, policy, number),
         Call::Sheet => simulator::sheet(itinerary, table, sheet),
         Call::Step(actor, partner) => simulator::step(itinerary, actor, partner),
+        Call::Copy(number) => simulator::copy(itinerary, number),
         Call::Moves => simulator::moves(itinerary, list),
         Call::Run => simulator::run(itinerary, script, answers),
         Call::Check => simulator::check(itinerary, policy, table),
@@ -137,6 +140,7 @@ pub fn enter(call: Call, lent: &mut Rooms) -> Answer {
         Call::Climb(number) => enter!(hub_climb(it, policy; number) -> label, boundary),
         Call::Sheet => enter!(hub_sheet(it, table, sheet) ->),
         Call::Step(actor, partner) => enter!(hub_step(it; actor, partner) ->),
+        Call::Copy(number) => enter!(hub_copy(it; number) -> copied),
         Call::Moves => enter!(hub_moves(it, list) -> done, no_capability, inactive, unfit),
         Call::Run => enter!(hub_run(it, script, answers) -> ins, outs, opens),
         Call::Check => enter!(hub_check(it, policy, table) ->),
@@ -162,6 +166,7 @@ pub fn enter_safely(call: Call, lent: &mut Rooms) -> Answer {
             unsafe { birnsket::sheet(it.shared(), table.shared(), sheet.unique()) }.map(|()| vec![])
         }
         Call::Step(actor, partner) => birnsket::step(unsafe { it.unique() }, actor, partner).map(|()| vec![]),
+        Call::Copy(number) => birnsket::copy(unsafe { it.unique() }, number).map(|copied| vec![copied]),
         Call::Moves => unsafe { birnsket::moves(it.shared(), list.unique()) }
             .map(|m| vec![m.done, m.no_capability, m.inactive, m.unfit]),
         Call::Run => unsafe { birnsket::run(it.unique(), script.shared(), answers.unique()) }

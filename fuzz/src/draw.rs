@@ -2,6 +2,7 @@
 
 use crate::buffers::{Buffer, Buffers, Overlap};
 use crate::calls::Call;
+use crate::copiers;
 use crate::families::Family;
 use crate::overlaps;
 use crate::rings;
@@ -47,6 +48,8 @@ fn draw_bench(random: &mut Random, family: Family) -> (Itinerary, Policy) {
         Family::Full => of_mix(random, Mix::full),
         Family::Crowded => of_mix(random, Mix::crowded),
         Family::Longest | Family::Long(Buffer::List) => half_opens(random),
+        Family::Copies => of_mix(random, Mix::copying),
+        Family::FullCopies => copiers::of_full(random),
         Family::FullSet => sets::first_of_full(random),
         Family::Chain => draw_chain(random),
         Family::Empty => Itinerary { records: vec![] },
@@ -105,7 +108,7 @@ fn spoil(random: &mut Random, bytes: &mut Vec<u8>) {
         16..=22 if !bytes.is_empty() => {
             for _ in 0..random.between(1, 3) {
                 let at = random.below(bytes.len());
-                bytes[at] = if random.chance(70) { random.below(6) as u8 } else { random.byte() };
+                bytes[at] = if random.chance(70) { random.below(7) as u8 } else { random.byte() };
             }
         }
         23 => bytes.iter_mut().for_each(|byte| *byte = random.byte()),
@@ -327,7 +330,7 @@ impl Case {
     }
 
     fn any_call(&self, random: &mut Random) -> Call {
-        match random.below(132) {
+        match random.below(142) {
             0..=5 => Call::Validate,
             6..=12 => Call::Climb(self.any_number(random)),
             13..=22 => Call::Sheet,
@@ -340,6 +343,10 @@ impl Case {
             99..=108 => Call::Moves,
             109..=113 => Call::Row(if random.chance(80) { random.below(66) as u8 } else { random.byte() }),
             114..=125 => Call::Join,
+            126..=135 => {
+                let number = self.any_number(random);
+                copiers::draw_copy(random, &self.buffers.itinerary, number)
+            }
             _ => Call::Screen,
         }
     }

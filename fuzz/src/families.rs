@@ -18,6 +18,9 @@ pub enum Family {
     /// Drawn for its moves: many, and half of 1,024 records with each of the other half.
     Crowded,
     Longest,
+    /// Drawn for the copy: copiers and gone records; a copier of 1,024 records, with about half of them beneath it.
+    Copies,
+    FullCopies,
     /// Drawn for the join: four good members and a table for all of them; the same of 1,024 records or a few more.
     Set,
     FullSet,
@@ -44,7 +47,7 @@ pub enum Family {
 use Family::*;
 
 /// Each with how many of 4,000 cases are of it; what is left is small.
-pub const FAMILIES: [(Family, usize); 35] = [
+pub const FAMILIES: [(Family, usize); 37] = [
     (Small, 0),
     (Medium, 60),
     (Large, 8),
@@ -53,6 +56,8 @@ pub const FAMILIES: [(Family, usize); 35] = [
     (Hinted, 108),
     (Crowded, 200),
     (Longest, 2),
+    (Copies, 200),
+    (FullCopies, 8),
     (Set, 200),
     (FullSet, 6),
     (Empty, 20),
@@ -104,6 +109,8 @@ impl Family {
             Hinted => "drawn for the verdict".to_string(),
             Crowded => "drawn for the moves".to_string(),
             Longest => "the longest list of moves".to_string(),
+            Copies => "drawn for the copy".to_string(),
+            FullCopies => "a copier of 1,024 records".to_string(),
             Set => "drawn for the join".to_string(),
             FullSet => "1,024 records joined, or more".to_string(),
             Long(Buffer::List) => "list longer than any needed".to_string(),
@@ -138,6 +145,7 @@ impl Family {
             PolicyInTable | PolicyInItinerary | TableInItinerary | ItineraryInTable | PolicyInScript
             | ScriptInPolicy | MemberInMember | PolicyInMember => overlap.is_some(),
             Crowded | Longest => call == Call::Moves,
+            Copies | FullCopies => matches!(call, Call::Copy(_)),
             Set | FullSet => call == Call::Join,
             _ => call.is_lent(Buffer::Itinerary),
         }

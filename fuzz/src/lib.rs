@@ -2,6 +2,7 @@
 
 pub mod buffers;
 pub mod calls;
+pub mod copiers;
 pub mod draw;
 pub mod families;
 pub mod memory;

@@ -6,7 +6,7 @@ use crate::tally;
 
 pub const USAGE: &str =
     "usage: fuzz [--seed N] [--calls M] [--only CALL] [--exact] [--trace] [--spoil-start BUFFER | --spoil-end BUFFER]
-  CALL is validate, climb, sheet, step, moves, run, check, join, make, verdict, exposed, row or screen
+  CALL is validate, climb, sheet, step, copy, moves, run, check, join, make, verdict, exposed, row or screen
   BUFFER is itinerary, policy, table, script, answers, sheet, list, second, third, fourth or joined";
 
 pub struct Options {

@@ -8,6 +8,7 @@ use simulator::law::Law;
 use simulator::random::Random;
 use simulator::record::{Itinerary, Kind, Record};
 use simulator::table::{least, BOUNDARY, LOW, POLICY_LENGTH, TABLE_LENGTH};
+use std::ops::RangeInclusive;
 
 /// Where H starts behind its row 0: any bytes may stand there up to S.
 const FREE: std::ops::Range<usize> = 1032..1536;
@@ -39,15 +40,14 @@ fn like_table(random: &mut Random) -> Itinerary {
         let kind = match number {
             129 => Kind::Gone,
             _ if number % 2 == 1 && number < 193 => random.pick(&[Kind::Gone, Kind::In, Kind::Open]),
-            _ => random.pick(&[Kind::Ambient, Kind::Ambient, Kind::Ambient, Kind::Out]),
+            _ => random.pick(&[Kind::Ambient, Kind::Ambient, Kind::Ambient, Kind::Out, Kind::Copier]),
         };
-        let label = if kind == Kind::Ambient { random.between(1, 63) } else { random.between(64, 127) };
+        let mut within =
+            |range: RangeInclusive<u8>| random.between((*range.start()).into(), (*range.end()).into()) as u8;
+        let (label, name) = (within(kind.labels()), within(kind.names()));
         records.push(match kind {
             Kind::Gone => Record::GONE,
-            _ => {
-                let client = clients::draw(random, 50);
-                Record { kind, label: label as u8, name: random.below(64) as u8, parent, client }
-            }
+            _ => Record { kind, label, name, parent, client: clients::draw(random, 50) },
         });
     }
     Itinerary { records }

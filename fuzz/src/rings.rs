@@ -6,8 +6,9 @@ use simulator::record::{Itinerary, Kind, Record, MOST_RECORDS};
 
 fn link(random: &mut Random, parent: u16) -> Record {
     let (name, client) = (random.below(64) as u8, clients::draw(random, 50));
-    match random.below(4) {
-        0 => {
+    match random.below(9) {
+        0 => Record { kind: Kind::Copier, label: 0, name: 0, parent, client },
+        1 | 2 => {
             let kind = random.pick(&[Kind::In, Kind::Out, Kind::Open]);
             Record { kind, label: 64 + random.below(64) as u8, name, parent, client }
         }

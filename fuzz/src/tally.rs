@@ -3,18 +3,20 @@
 use crate::buffers::{Buffer, Buffers};
 use crate::calls::{Answer, Call};
 use crate::families::{Family, FAMILIES};
-use simulator::record::{Itinerary, LAST_CLIENT, MOST_RECORDS};
+use simulator::copies::{beneath, gone};
+use simulator::record::{Itinerary, Kind, LAST_CLIENT, MOST_RECORDS};
 use std::collections::BTreeMap;
 
 /// Calls after which each answer of each call is met by far.
 const ENOUGH: u64 = 200_000;
 
 /// The numbers that a call can answer beside 0 and, but for the row, 1 to 6.
-const OWN_NUMBERS: [(&str, &[u32]); 13] = [
+const OWN_NUMBERS: [(&str, &[u32]); 14] = [
     ("validate", &[]),
     ("climb", &[7]),
     ("sheet", &[8, 14]),
     ("step", &[10, 11, 12]),
+    ("copy", &[17, 18]),
     ("moves", &[15]),
     ("run", &[13]),
     ("check", &[7, 8, 9]),
@@ -36,6 +38,22 @@ const LISTS: [&str; 5] = [
     "as long as any",
 ];
 
+/// Which of those a list is, by its buffer's length and its own.
+fn list_is(room: usize, written: usize) -> [bool; 5] {
+    [
+        written == 0,
+        room == 0,
+        written == room && room > 0,
+        written < room && written > 0,
+        written == Buffer::List.limit(),
+    ]
+}
+
+/// Adds one for each that is met.
+fn count<const N: usize>(counts: &mut [u64; N], met: [bool; N]) {
+    counts.iter_mut().zip(met).for_each(|(count, met)| *count += u64::from(met));
+}
+
 /// What a set can be, by the number it gets.
 const SETS: [(&str, u32); 11] = [
     ("of four members", 0),
@@ -50,6 +68,71 @@ const SETS: [(&str, u32); 11] = [
     ("in a buffer a record long", 16),
     ("held for the first member", 9),
 ];
+
+/// What a copy can be, by the number it gets.
+const COPIES: [(&str, u32); 10] = [
+    ("of no records", 0),
+    ("into all gone records", 0),
+    ("in an ambient", 0),
+    ("with a copier in it", 0),
+    ("of 511 records", 0),
+    ("of another record", 17),
+    ("of an inactive copier", 17),
+    ("inactive and too large", 17),
+    ("a gone record short", 18),
+    ("with nothing gone", 18),
+];
+
+/// Which of those a call's copy is, by the itinerary as it is after it.
+fn copy_is(itinerary: &[u8], copier: u16, answer: &Answer) -> [bool; 10] {
+    let Ok(read) = Itinerary::read(itinerary) else { return [false; 10] };
+    let (below, gone) = (beneath(&read, copier), gone(&read).len());
+    let (is_copier, copied) = (|number: u16| read.is(Kind::Copier, number), answer[2]);
+    let is = [
+        copied == 0,
+        copied > 0 && gone == 0,
+        copied > 0 && read.get(copier).is_some_and(|record| record.parent > 0),
+        below.iter().any(|&number| is_copier(number)),
+        copied == 511,
+        read.get(copier).is_some_and(|record| record.kind != Kind::Copier),
+        is_copier(copier),
+        is_copier(copier) && gone < below.len(),
+        gone + 1 == below.len(),
+        gone == 0,
+    ];
+    std::array::from_fn(|place| is[place] && COPIES[place].1 == answer[0])
+}
+
+/// What else is met of copiers, by the number that a call gets.
+const COPIERS: [(&str, u32); 5] = [
+    ("copier's label", 3),
+    ("copier's name", 4),
+    ("copier as actor", 10),
+    ("actor beneath a copier", 11),
+    ("copier as partner", 12),
+];
+
+/// Which of those a call met, of whose members or itinerary these bytes are looked at.
+fn copier_is(call: Call, answer: &Answer, bytes: &[u8]) -> [bool; 5] {
+    let refused = 8 * (answer[1] as usize).saturating_sub(1);
+    let fault = bytes.get(refused) == Some(&(Kind::Copier as u8));
+    let read = match (call, answer[0]) {
+        (Call::Step(..), 10..=12) => Itinerary::read(bytes).ok(),
+        _ => None,
+    };
+    let step = |wanted: &dyn Fn(&Itinerary, u16, u16) -> bool| match (&read, call) {
+        (Some(read), Call::Step(actor, partner)) => wanted(read, actor, partner),
+        _ => false,
+    };
+    let is = [
+        fault,
+        fault,
+        step(&|read, actor, _| read.is(Kind::Copier, actor)),
+        step(&|read, actor, _| read.upward(actor).any(|above| read.is(Kind::Copier, above))),
+        step(&|read, _, partner| read.is(Kind::Copier, partner)),
+    ];
+    std::array::from_fn(|place| is[place] && COPIERS[place].1 == answer[0])
+}
 
 /// Which of those a call's set is, by the buffers as they are after it.
 fn set_is(lent: &Buffers, number: u32) -> [bool; 11] {
@@ -97,7 +180,7 @@ fn client_refused(itinerary: &[u8], record: u32) -> bool {
     let client = u16::from_le_bytes([bytes[6], bytes[7]]);
     match bytes[0] {
         0 => bytes[1..6].iter().all(|&byte| byte == 0) && client > 0,
-        kind => kind <= 4 && bytes[3] == 0 && client > LAST_CLIENT,
+        kind => kind <= Kind::LAST && bytes[3] == 0 && client > LAST_CLIENT,
     }
 }
 
@@ -113,6 +196,8 @@ pub struct Tally {
     exposed: [u64; 2],
     lists: [u64; 5],
     sets: [u64; 11],
+    copies: [u64; 10],
+    copiers: [u64; 5],
     /// Of members refused with a number, the first, second, third and fourth.
     members: BTreeMap<(u32, usize), u64>,
     /// Refused with 2 for nothing but a client.
@@ -142,12 +227,18 @@ impl Tally {
         if member > 0 {
             *self.members.entry((answer[0], member)).or_default() += 1;
         } else if call == Call::Join {
-            let met = set_is(after, answer[0]);
-            self.sets.iter_mut().zip(met).for_each(|(count, met)| *count += u64::from(met));
+            count(&mut self.sets, set_is(after, answer[0]));
         }
-        if answer[0] != 0 {
-            return;
+        count(&mut self.copiers, copier_is(call, answer, bytes));
+        if let Call::Copy(copier) = call {
+            count(&mut self.copies, copy_is(bytes, copier, answer));
         }
+        if answer[0] == 0 {
+            self.add_done(call, answer, after);
+        }
+    }
+
+    fn add_done(&mut self, call: Call, answer: &Answer, after: &Buffers) {
         if matches!(call, Call::Verdict | Call::Screen) {
             *self.verdicts.entry((call.name(), answer[2])).or_default() += 1;
         }
@@ -155,15 +246,7 @@ impl Tally {
             self.exposed[answer[2] as usize] += 1;
         }
         if call == Call::Moves {
-            let (written, room) = (4 * answer[2] as usize, after.list.len());
-            let met = [
-                written == 0,
-                room == 0,
-                written == room && room > 0,
-                written < room && written > 0,
-                written == Buffer::List.limit(),
-            ];
-            self.lists.iter_mut().zip(met).for_each(|(count, met)| *count += u64::from(met));
+            count(&mut self.lists, list_is(after.list.len(), 4 * answer[2] as usize));
         }
         if matches!(call, Call::Run | Call::Screen) {
             for &byte in &after.answers {
@@ -213,6 +296,10 @@ impl Tally {
         missing.extend(absent.map(|(word, _)| format!("list {word}")));
         let absent = SETS.iter().zip(self.sets).filter(|&(_, count)| count == 0);
         missing.extend(absent.map(|((word, _), _)| format!("set {word}")));
+        let absent = COPIES.iter().zip(self.copies).filter(|&(_, count)| count == 0);
+        missing.extend(absent.map(|((word, _), _)| format!("copy {word}")));
+        let absent = COPIERS.iter().zip(self.copiers).filter(|&(_, count)| count == 0);
+        missing.extend(absent.map(|((word, number), _)| format!("{number} by {word}")));
         let members = (1..7).flat_map(|number| (1..5).map(move |member| (number, member)));
         let absent = members.filter(|key| !self.members.contains_key(key));
         missing.extend(absent.map(|(number, member)| format!("join {number} in member {member}")));
@@ -245,6 +332,12 @@ impl Tally {
         for ((word, _), count) in SETS.iter().zip(self.sets) {
             println!("set {word} {count}");
         }
+        for ((word, _), count) in COPIES.iter().zip(self.copies) {
+            println!("copy {word} {count}");
+        }
+        for ((word, number), count) in COPIERS.iter().zip(self.copiers) {
+            println!("{number} by {word} {count}");
+        }
         for ((number, member), count) in &self.members {
             println!("join {number} in member {member} {count}");
         }
@@ -268,9 +361,9 @@ mod tests {
     #[test]
     fn refusal_2_by_a_client_is_told_apart() {
         let by_client: [[u8; 8]; 3] =
-            [[1, 1, 0, 0, 0, 0, 0xe8, 3], [4, 0, 99, 0, 9, 9, 0, 4], [0, 0, 0, 0, 0, 0, 17, 0]];
+            [[1, 1, 0, 0, 0, 0, 0xe8, 3], [5, 0, 99, 0, 9, 9, 0, 4], [0, 0, 0, 0, 0, 0, 17, 0]];
         let otherwise: [[u8; 8]; 3] =
-            [[5, 1, 0, 0, 0, 0, 0xe8, 3], [1, 1, 0, 1, 0, 0, 0xe8, 3], [0, 1, 0, 0, 0, 0, 17, 0]];
+            [[6, 1, 0, 0, 0, 0, 0xe8, 3], [1, 1, 0, 1, 0, 0, 0xe8, 3], [0, 1, 0, 0, 0, 0, 17, 0]];
         for record in by_client {
             assert!(client_refused(&[[1, 1, 0, 0, 0, 0, 0, 0], record].concat(), 2));
         }
@@ -307,6 +400,10 @@ mod tests {
             missing.contains(&"join 16".to_string()) && missing.contains(&"set of no records".to_string())
         );
         assert!(missing.contains(&"join 6 in member 4".to_string()));
+        assert!(
+            missing.contains(&"copy 18".to_string()) && missing.contains(&"copy of 511 records".to_string())
+        );
+        assert!(missing.contains(&"3 by copier's label".to_string()));
         assert!(missing.contains(&"exposed 9".to_string()) && missing.contains(&"exposed yes".to_string()));
         assert!(!missing.contains(&"validate 0".to_string()));
     }

@@ -3,6 +3,7 @@
 //! A call first looks at everything it may refuse, and only then writes.
 
 use crate::answer::{refuse, values, Outcome, Refusal};
+use crate::copies;
 use crate::law::Law;
 use crate::record::{self, Itinerary, Kind, MOST_RECORDS, RECORD_LENGTH};
 use crate::steps;
@@ -55,14 +56,14 @@ pub fn validate(itinerary: &[u8]) -> Outcome {
 
 /// The container and the number of the nearest boundary ambient above; both 0 for a
 /// number that is 0, over the count or a gone record's.
-pub fn climb(itinerary: &[u8], policy: &[u8], number: u16) -> Outcome {
+pub fn climb(law: Law, itinerary: &[u8], policy: &[u8], number: u16) -> Outcome {
     let itinerary = Itinerary::read(itinerary)?;
     let policy = read_policy(policy)?;
     let stands = itinerary.get(number).is_some_and(|record| record.kind != Kind::Gone);
     if !stands {
         return Ok(values(&[]));
     }
-    let container = itinerary.container(number).into();
+    let container = itinerary.container(law, number).into();
     Ok(values(&[container, table::boundary_above(&itinerary, &policy, number).into()]))
 }
 
@@ -96,6 +97,18 @@ pub fn moves(law: Law, itinerary: &[u8], list: &mut [u8]) -> Outcome {
     }
     list[..bytes.len()].copy_from_slice(&bytes);
     Ok(values(&[tally.done, tally.no_capability, tally.inactive, tally.unfit]))
+}
+
+/// Copies what stands beneath a copier. The value: how many records.
+pub fn copy(law: Law, itinerary: &mut [u8], number: u16) -> Outcome {
+    let mut read = Itinerary::read(itinerary)?;
+    match copies::copy(law, &mut read, number) {
+        Ok(copied) => {
+            itinerary.copy_from_slice(&read.bytes());
+            Ok(values(&[copied.into()]))
+        }
+        Err(refusal) => refuse(refusal),
+    }
 }
 
 pub fn run(law: Law, itinerary: &mut [u8], script: &[u8], answers: &mut [u8]) -> Outcome {

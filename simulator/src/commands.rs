@@ -5,7 +5,8 @@
 use simulator::hub;
 use simulator::law::Law;
 use simulator::replay::{self, counts::Counts, player, Section, Size, SECTIONS};
-use simulator::secrecy::{files::faults, pairs, search::search, sets, text, text::Stored, Case};
+use simulator::secrecy::search::{search, Draw};
+use simulator::secrecy::{copying, files::faults, pairs, sets, text, text::Stored, Case};
 use simulator::term;
 use std::fs;
 use std::path::Path;
@@ -13,12 +14,12 @@ use std::path::Path;
 type Result<T> = std::result::Result<T, String>;
 
 const USAGE: &str = "usage: simulator COMMAND
-  cases --seed N --out DIR [--calls itinerary|table|screen|moves|join] [--sample]
-  cases --seed N --check DIR [--calls itinerary|table|screen|moves|join] [--sample]
+  cases --seed N --out DIR [--calls itinerary|table|screen|moves|join|copy] [--sample]
+  cases --seed N --check DIR [--calls itinerary|table|screen|moves|join|copy] [--sample]
   play [--change NAME] FILE...
   reducts --seed N --count M
-  secrecy --seed N --count M [--joined]
-  hunt --change NAME --seed N --count M [--out DIR]
+  secrecy --seed N --count M [--copying|--joined]
+  hunt --change NAME --seed N --count M [--copying] [--out DIR]
   replay DIR
   hub DIR";
 
@@ -43,7 +44,7 @@ struct Options {
     words: Vec<String>,
 }
 
-const FLAGS: [&str; 2] = ["--sample", "--joined"];
+const FLAGS: [&str; 3] = ["--sample", "--copying", "--joined"];
 
 impl Options {
     fn read(arguments: &[String]) -> Result<Options> {
@@ -176,17 +177,27 @@ fn play(options: &Options) -> Result<bool> {
 fn reducts(options: &Options) -> Result<bool> {
     let sets = term::compare(options.number("--seed")?, options.number("--count")?);
     println!(
-        "{} cases, {} of them with reducts, {} reducts compared, {} cases different",
-        sets.cases, sets.with_some, sets.reducts, sets.different
+        "{} cases, {} of them with reducts, {} reducts and {} unfoldings compared, {} cases different",
+        sets.cases, sets.with_some, sets.reducts, sets.unfoldings, sets.different
     );
     compared(sets.reducts > 0, "no itinerary had a reduct")?;
+    compared(sets.unfoldings > 0, "no itinerary had a replication to unfold")?;
     Ok(sets.different == 0)
+}
+
+/// Which pairs are drawn.
+fn draw(options: &Options) -> Draw {
+    match (options.get("--joined"), options.get("--copying")) {
+        (Some(_), _) => sets::draw,
+        (_, Some(_)) => copying::draw,
+        _ => pairs::draw,
+    }
 }
 
 /// Under the document's law no counterexample may be found, neither of one itinerary each nor of a joined set.
 fn secrecy(options: &Options) -> Result<bool> {
-    let draw = if options.get("--joined").is_some() { sets::draw } else { pairs::draw };
-    let (found, tally) = search(Law::Document, draw, options.number("--seed")?, options.number("--count")?);
+    let (seed, count) = (options.number("--seed")?, options.number("--count")?);
+    let (found, tally) = search(Law::Document, draw(options), seed, count);
     println!("{}", tally.line());
     if let Some(case) = &found {
         print!("{}", text::print(&stored(Law::Document, case)));
@@ -194,6 +205,8 @@ fn secrecy(options: &Options) -> Result<bool> {
     compared(tally.supposed > 0, "no pair was as supposed")?;
     compared(tally.different > 0, "each pair as supposed was of two equal itineraries")?;
     compared(tally.steps > 0, "no pair as supposed had a step")?;
+    let copied = options.get("--copying").is_none() || tally.copies > 0;
+    compared(copied, "no copy was done in a pair as supposed")?;
     Ok(found.is_none())
 }
 
@@ -203,7 +216,7 @@ fn hunt(options: &Options) -> Result<bool> {
     if law == Law::Document {
         return Err("--change is missing".to_string());
     }
-    let (found, tally) = search(law, pairs::draw, options.number("--seed")?, options.number("--count")?);
+    let (found, tally) = search(law, draw(options), options.number("--seed")?, options.number("--count")?);
     eprintln!("{}", tally.line());
     let Some(case) = found else { return Ok(false) };
     let text = text::print(&stored(law, &case));

@@ -6,6 +6,7 @@
 
 pub mod answer;
 pub mod calls;
+pub mod copies;
 pub mod generate;
 pub mod hub;
 pub mod law;
@@ -27,7 +28,7 @@ pub fn validate(itinerary: &[u8]) -> Answer {
 
 /// Values: container, number of the nearest boundary ambient above.
 pub fn climb(itinerary: &[u8], policy: &[u8], number: u16) -> Answer {
-    calls::climb(itinerary, policy, number).into()
+    calls::climb(Law::Document, itinerary, policy, number).into()
 }
 
 /// Writes the observer's sheet.
@@ -38,6 +39,11 @@ pub fn sheet(itinerary: &[u8], table: &[u8], sheet: &mut [u8]) -> Answer {
 /// Does one step in the lent itinerary.
 pub fn step(itinerary: &mut [u8], actor: u16, partner: u16) -> Answer {
     calls::step(Law::Document, itinerary, actor, partner).into()
+}
+
+/// Values: how many records were copied. Copies what stands beneath a copier into gone records.
+pub fn copy(itinerary: &mut [u8], number: u16) -> Answer {
+    calls::copy(Law::Document, itinerary, number).into()
 }
 
 /// Values: how many pairs would answer 0, 10, 11 and 12. Writes the pairs of the first

@@ -1,6 +1,8 @@
 //! Itinerary records: reading with refusals 1 to 6, climbing, writing, joining.
 
 use crate::answer::{refuse, Refusal};
+use crate::law::Law;
+use std::ops::RangeInclusive;
 
 pub const RECORD_LENGTH: usize = 8;
 pub const MOST_RECORDS: usize = 1024;
@@ -14,10 +16,29 @@ pub enum Kind {
     In,
     Out,
     Open,
+    Copier,
 }
 
 impl Kind {
-    pub const ALL: [Kind; 5] = [Kind::Gone, Kind::Ambient, Kind::In, Kind::Out, Kind::Open];
+    pub const ALL: [Kind; 6] = [Kind::Gone, Kind::Ambient, Kind::In, Kind::Out, Kind::Open, Kind::Copier];
+    pub const LAST: u8 = Kind::Copier as u8;
+
+    /// The labels that a record of that kind may have; a gone record has none.
+    pub fn labels(self) -> RangeInclusive<u8> {
+        match self {
+            Kind::Ambient => 1..=63,
+            Kind::In | Kind::Out | Kind::Open => 64..=127,
+            Kind::Gone | Kind::Copier => 0..=0,
+        }
+    }
+
+    /// The same for names.
+    pub fn names(self) -> RangeInclusive<u8> {
+        match self {
+            Kind::Gone | Kind::Copier => 0..=0,
+            _ => 0..=63,
+        }
+    }
 
     pub fn is_capability(self) -> bool {
         matches!(self, Kind::In | Kind::Out | Kind::Open)
@@ -102,7 +123,7 @@ impl Itinerary {
     }
 
     /// All record numbers, from 1 up.
-    pub fn numbers(&self) -> std::ops::RangeInclusive<u16> {
+    pub fn numbers(&self) -> RangeInclusive<u16> {
         1..=self.count() as u16
     }
 
@@ -115,8 +136,12 @@ impl Itinerary {
         self.records.get_mut((number as usize).checked_sub(1)?)
     }
 
+    pub fn is(&self, kind: Kind, number: u16) -> bool {
+        self.get(number).is_some_and(|record| record.kind == kind)
+    }
+
     pub fn is_ambient(&self, number: u16) -> bool {
-        self.get(number).is_some_and(|record| record.kind == Kind::Ambient)
+        self.is(Kind::Ambient, number)
     }
 
     pub fn standing(&self) -> usize {
@@ -141,7 +166,7 @@ impl Itinerary {
     }
 
     /// The numbers of the records above, nearest first, the environment left out.
-    fn upward(&self, number: u16) -> impl Iterator<Item = u16> + '_ {
+    pub fn upward(&self, number: u16) -> impl Iterator<Item = u16> + '_ {
         std::iter::successors(self.parent(number), |&at| self.parent(at))
     }
 
@@ -149,15 +174,17 @@ impl Itinerary {
         self.upward(number).collect()
     }
 
-    /// Whether all records above are ambients; a capability is then active.
+    /// Whether all records above are ambients; a capability or a copier is then active.
     pub fn is_under_ambients(&self, number: u16) -> bool {
         self.upward(number).all(|above| self.is_ambient(above))
     }
 
     /// The label of the nearest ambient above, or 0.
-    pub fn container(&self, number: u16) -> u8 {
-        let nearest = self.upward(number).find(|&higher| self.is_ambient(higher));
-        nearest.and_then(|ambient| self.get(ambient)).map_or(0, |record| record.label)
+    pub fn container(&self, law: Law, number: u16) -> u8 {
+        let stops = |higher: &u16| {
+            self.is_ambient(*higher) || law == Law::ContainersStopAtCopiers && self.is(Kind::Copier, *higher)
+        };
+        self.upward(number).find(stops).and_then(|found| self.get(found)).map_or(0, |record| record.label)
     }
 }
 
@@ -180,19 +207,18 @@ fn record_fault(all: &[u8], number: usize) -> Option<u8> {
     let count = all.len() / RECORD_LENGTH;
     let record = |number: usize| &all[(number - 1) * RECORD_LENGTH..number * RECORD_LENGTH];
     let bytes = record(number);
-    let (kind, label, name) = (bytes[0], bytes[1], bytes[2]);
-    if kind > 4 || bytes[3] != 0 || client_of(bytes) > LAST_CLIENT {
+    if bytes[0] > Kind::LAST || bytes[3] != 0 || client_of(bytes) > LAST_CLIENT {
         return Some(2);
     }
-    if kind == 0 {
+    let kind = Kind::ALL[bytes[0] as usize];
+    if kind == Kind::Gone {
         // A gone record has no client, and no label, name or parent that 3 to 5 could be about.
         return if bytes.iter().any(|&byte| byte != 0) { Some(2) } else { None };
     }
-    let fitting = if kind == 1 { 1..=63 } else { 64..=127 };
-    if !fitting.contains(&label) {
+    if !kind.labels().contains(&bytes[1]) {
         return Some(3);
     }
-    if name > 63 {
+    if !kind.names().contains(&bytes[2]) {
         return Some(4);
     }
     let parent = parent_of(bytes) as usize;

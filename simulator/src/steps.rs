@@ -9,7 +9,7 @@ pub fn answer(law: Law, itinerary: &Itinerary, actor: u16, partner: u16) -> u8 {
     if !c.kind.is_capability() {
         return 10;
     }
-    if !itinerary.is_under_ambients(actor) {
+    if !is_active(law, itinerary, actor) {
         return 11;
     }
     if c.kind != Kind::Open && !itinerary.is_ambient(c.parent) {
@@ -22,6 +22,12 @@ pub fn answer(law: Law, itinerary: &Itinerary, actor: u16, partner: u16) -> u8 {
     }
 }
 
+/// Whether all records above are ambients.
+fn is_active(law: Law, itinerary: &Itinerary, actor: u16) -> bool {
+    let passed = |above: u16| law == Law::ActiveBelowCopiers && itinerary.is(Kind::Copier, above);
+    itinerary.upward(actor).all(|above| itinerary.is_ambient(above) || passed(above))
+}
+
 /// Whether the ambient `partner` is one that the active capability c can take.
 fn fits(itinerary: &Itinerary, c: &Record, partner: u16) -> bool {
     let Some(b) = itinerary.get(partner) else { return false };
@@ -29,7 +35,7 @@ fn fits(itinerary: &Itinerary, c: &Record, partner: u16) -> bool {
         Kind::In => partner != c.parent && itinerary.get(c.parent).is_some_and(|a| a.parent == b.parent),
         Kind::Out => itinerary.get(c.parent).is_some_and(|a| a.parent == partner),
         Kind::Open => b.parent == c.parent,
-        Kind::Gone | Kind::Ambient => false,
+        Kind::Gone | Kind::Ambient | Kind::Copier => false,
     };
     place && b.name == c.name
 }

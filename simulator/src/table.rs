@@ -99,12 +99,13 @@ fn orders(law: Law, itineraries: &[&Itinerary]) -> Orders {
 }
 
 /// What must be in the table without any rule: nesting, names, high labels.
-fn add_starting_bits(itineraries: &[&Itinerary], policy: &Policy, table: &mut Table) {
+fn add_starting_bits(law: Law, itineraries: &[&Itinerary], policy: &Policy, table: &mut Table) {
     for itinerary in itineraries {
         for number in itinerary.numbers() {
             let record = itinerary.records[number as usize - 1];
-            if record.kind != Kind::Gone {
-                table.set(i_bit(itinerary.container(number), record.label));
+            let nests = record.kind == Kind::Ambient || record.kind.is_capability();
+            if nests || record.kind == Kind::Copier && law == Law::CopiersNest {
+                table.set(i_bit(itinerary.container(law, number), record.label));
             }
             if record.kind == Kind::Ambient {
                 table.set(h_bit(record.label, record.name));
@@ -188,7 +189,7 @@ fn add_by_rules(law: Law, orders: &Orders, table: &mut Table) {
             Kind::In => add_by_in(law, label, name, table),
             Kind::Out => add_by_out(law, label, name, table),
             Kind::Open => add_by_open(law, label, name, table),
-            Kind::Gone | Kind::Ambient => {}
+            Kind::Gone | Kind::Ambient | Kind::Copier => {}
         }
     }
 }
@@ -196,7 +197,7 @@ fn add_by_rules(law: Law, orders: &Orders, table: &mut Table) {
 /// The table holds exactly when starting bits and rules add nothing to it.
 pub fn holds(law: Law, itinerary: &Itinerary, policy: &Policy, table: &Table) -> bool {
     let mut more = table.clone();
-    add_starting_bits(&[itinerary], policy, &mut more);
+    add_starting_bits(law, &[itinerary], policy, &mut more);
     add_by_rules(law, &orders(law, &[itinerary]), &mut more);
     more == *table
 }
@@ -205,7 +206,7 @@ pub fn holds(law: Law, itinerary: &Itinerary, policy: &Policy, table: &Table) ->
 pub fn close(law: Law, itineraries: &[&Itinerary], policy: &Policy, start: &Table) -> Table {
     let orders = orders(law, itineraries);
     let mut table = start.clone();
-    add_starting_bits(itineraries, policy, &mut table);
+    add_starting_bits(law, itineraries, policy, &mut table);
     loop {
         let before = table.clone();
         add_by_rules(law, &orders, &mut table);

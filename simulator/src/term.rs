@@ -5,14 +5,16 @@
 //! - open: open n.P | n[Q]  ->  P | Q
 //!
 //! and by their closure under parallel parts and inside ambients, never behind a
-//! capability. Labels ride along. Nothing here knows of records or steps but the
-//! reading of an itinerary.
+//! capability or a replication. Of the congruence !P = P | !P only one unfolding is known,
+//! from left to right. Labels ride along. Nothing here knows of records, steps or copies but
+//! the reading of an itinerary.
 
-use crate::generate::scripts::done_step;
+use crate::copies;
+use crate::generate::scripts::{done_copy, done_step};
 use crate::generate::trees::{tree, Mix};
 use crate::law::Law;
 use crate::random::Random;
-use crate::record::{Itinerary, Kind};
+use crate::record::{Itinerary, Kind, Record};
 use crate::steps;
 use std::collections::BTreeSet;
 
@@ -25,6 +27,8 @@ pub enum Part {
     Ambient { label: u8, name: u8, inside: Process },
     /// M.P
     Prefix { kind: Kind, label: u8, name: u8, then: Process },
+    /// !P
+    Replication { of: Process },
 }
 
 /// The term of everything that has this parent, parallel parts sorted.
@@ -38,6 +42,7 @@ pub fn read(itinerary: &Itinerary, parent: u16) -> Process {
         let (label, name, below) = (record.label, record.name, read(itinerary, number));
         process.push(match record.kind {
             Kind::Ambient => Part::Ambient { label, name, inside: below },
+            Kind::Copier => Part::Replication { of: below },
             kind => Part::Prefix { kind, label, name, then: below },
         });
     }
@@ -49,6 +54,7 @@ fn sorted(mut process: Process) -> Process {
         match part {
             Part::Ambient { inside, .. } => *inside = sorted(std::mem::take(inside)),
             Part::Prefix { then, .. } => *then = sorted(std::mem::take(then)),
+            Part::Replication { of } => *of = sorted(std::mem::take(of)),
         }
     }
     process.sort();
@@ -143,6 +149,36 @@ fn by_open(process: &[Part], all: &mut Vec<Process>) {
     }
 }
 
+/// Every process that this one becomes when one !P, with nothing but ambients around it, is unfolded to P | !P.
+pub fn unfoldings(process: &[Part]) -> BTreeSet<Process> {
+    let mut all = Vec::new();
+    for part in process {
+        if let Part::Replication { of } = part {
+            all.push([process, of].concat());
+        }
+    }
+    for (label, name, inside, rest) in ambients(process) {
+        for more in unfoldings(&inside) {
+            all.push([rest.clone(), vec![ambient(label, name, more)]].concat());
+        }
+    }
+    all.into_iter().map(sorted).collect()
+}
+
+/// The terms of all itineraries that one copy makes of this one, with any number; there are gone records enough.
+pub fn by_copies(itinerary: &Itinerary) -> BTreeSet<Process> {
+    let mut roomy = itinerary.clone();
+    roomy.records.extend(vec![Record::GONE; itinerary.count()]);
+    let mut all = BTreeSet::new();
+    for number in 0..=roomy.count() as u16 + 1 {
+        let mut after = roomy.clone();
+        if copies::copy(Law::Document, &mut after, number).is_ok() {
+            all.insert(read(&after, 0));
+        }
+    }
+    all
+}
+
 /// The terms of all itineraries that one step makes of this one, with any two
 /// numbers as actor and partner, none left out.
 pub fn by_steps(itinerary: &Itinerary) -> BTreeSet<Process> {
@@ -165,31 +201,43 @@ pub struct Compared {
     pub cases: usize,
     pub reducts: usize,
     pub with_some: usize,
+    pub unfoldings: usize,
     pub different: usize,
 }
 
-/// Compares both sets of reducts on that many itineraries: random ones, and what
-/// they become while steps are done.
+/// What a step or a copy makes of the itinerary, if one is found.
+fn next(random: &mut Random, itinerary: &Itinerary) -> Option<Itinerary> {
+    let mut after = itinerary.clone();
+    if random.chance(30) {
+        if let Some(number) = done_copy(random, itinerary) {
+            let _ = copies::copy(Law::Document, &mut after, number);
+            return Some(after);
+        }
+    }
+    let (actor, partner) = done_step(random, itinerary)?;
+    let _ = steps::step(Law::Document, &mut after, actor, partner);
+    Some(after)
+}
+
+/// Compares both sets of reducts, and both of unfoldings, on that many itineraries: random ones, and what
+/// they become while steps and copies are done.
 pub fn compare(seed: u64, count: u64) -> Compared {
     let mut random = Random::new(seed);
     let mut compared = Compared::default();
     let mut itinerary = Itinerary { records: Vec::new() };
     for _ in 0..count {
-        itinerary = match done_step(&mut random, &itinerary) {
-            Some((actor, partner)) => {
-                let _ = steps::step(Law::Document, &mut itinerary, actor, partner);
-                itinerary
-            }
-            None => {
-                let mix = if random.chance(80) { Mix::lively(&mut random) } else { Mix::small(&mut random) };
-                tree(&mut random, &mix)
-            }
-        };
-        let (published, stepped) = (reducts(&read(&itinerary, 0)), by_steps(&itinerary));
+        itinerary = next(&mut random, &itinerary).unwrap_or_else(|| {
+            let mix = if random.chance(80) { Mix::lively(&mut random) } else { Mix::small(&mut random) };
+            tree(&mut random, &mix)
+        });
+        let term = read(&itinerary, 0);
+        let (published, stepped) = (reducts(&term), by_steps(&itinerary));
+        let (unfolded, copied) = (unfoldings(&term), by_copies(&itinerary));
         compared.cases += 1;
         compared.reducts += published.len();
         compared.with_some += usize::from(!published.is_empty());
-        compared.different += usize::from(published != stepped);
+        compared.unfoldings += unfolded.len();
+        compared.different += usize::from(published != stepped || unfolded != copied);
     }
     compared
 }

@@ -4,6 +4,7 @@ use simulator::generate::damage::damage;
 use simulator::generate::examples::{between, nested};
 use simulator::generate::policies::{bad, good, of, usual};
 use simulator::generate::trees::{tree, Mix};
+use simulator::law::Law;
 use simulator::random::Random;
 use simulator::record::{Itinerary, Kind, Record};
 
@@ -93,7 +94,7 @@ fn nothing_nearer_is_a_boundary() {
         let policy = good(random);
         for number in itinerary.numbers() {
             let (container, boundary) = climb(&itinerary, &policy, number);
-            assert_eq!(container, u32::from(itinerary.container(number)));
+            assert_eq!(container, u32::from(itinerary.container(Law::Document, number)));
             let parent = itinerary.records[number as usize - 1].parent;
             let above = itinerary.get(parent).copied().unwrap_or(Record::GONE);
             let is_boundary = above.kind == Kind::Ambient && policy[above.label as usize] == 2;

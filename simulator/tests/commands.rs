@@ -44,6 +44,7 @@ fn a_secrecy_run_without_a_pair_as_supposed_fails() {
 fn runs_that_compare_something_pass() {
     for arguments in [
         "secrecy --seed 1 --count 300",
+        "secrecy --seed 1 --count 300 --copying",
         "secrecy --seed 1 --count 300 --joined",
         "reducts --seed 1 --count 50",
         "replay counterexamples",

@@ -1,7 +1,7 @@
 //! Replay files play as they were written, and notice changed definitions.
 
 use simulator::generate::examples::runs;
-use simulator::law::{Law, CHANGES};
+use simulator::law::{Law, CHANGES, MISTAKES};
 use simulator::record::Kind;
 use simulator::replay::stream::{Buffer, Call, EXPECT_PAIRS, FILL, HEADER};
 use simulator::replay::{file, player::play, writer::Writer, Size, SECTIONS};
@@ -23,7 +23,7 @@ fn samples_play_and_are_as_stored() {
 #[test]
 fn samples_notice_every_change() {
     let samples: Vec<Vec<u8>> = SECTIONS.iter().map(|section| file(section, SEED, Size::Sample).0).collect();
-    for (name, law) in CHANGES {
+    for (name, law) in CHANGES.into_iter().chain(MISTAKES) {
         assert!(samples.iter().any(|sample| play(law, sample).is_err()), "{name} goes unnoticed");
     }
 }

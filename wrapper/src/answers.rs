@@ -21,9 +21,9 @@ impl Refusal {
     pub fn cause(&self) -> &'static str {
         match self.number {
             1 => "itinerary length no multiple of 8, or over 8,192",
-            2 => "kind over 4, byte 3 not 0, a client over 999, or a gone record not all 0",
+            2 => "kind over 5, byte 3 not 0, a client over 999, or a gone record not all 0",
             3 => "label wrong for its kind",
-            4 => "name over 63",
+            4 => "name over 63, or not 0 on a copier",
             5 => "parent over the record count, or a record of kind 0",
             6 => "climbing doesn't reach 0",
             7 => "policy not 64 bytes, a byte over 2, or byte 0 not 0",
@@ -36,6 +36,8 @@ impl Refusal {
             14 => "sheet not as long as the itinerary",
             15 => "list buffer shorter than the list",
             16 => "over 1,024 records together, or a buffer not of the joined length",
+            17 => "number 0, over the count, or no active copier",
+            18 => "fewer gone records than records beneath the copier",
             _ => "unknown cause",
         }
     }

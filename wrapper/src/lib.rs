@@ -175,6 +175,33 @@ pub fn run(itinerary: &mut [u8], script: &[u8], answers: &mut [u8]) -> Result<Co
     Ok(Counts { ins: result.ins, outs: result.outs, opens: result.opens })
 }
 
+/// Copies all records beneath a copier, the k-th of them by number into the k-th gone
+/// record by number, and returns how many there are. Parents among the copies follow the
+/// copies; copies of the copier's own children get its parent.
+///
+/// Refuses with 1 to 6, as [`validate`]; 17 (a number that is no active copier); 18
+/// (fewer gone records than records beneath the copier).
+///
+/// ```
+/// use birnsket::{copy, step, Refusal};
+///
+/// // A copier in an ambient, and beneath it an ambient with an out capability.
+/// let mut itinerary = [0; 48];
+/// itinerary[..16].copy_from_slice(&[1, 1, 0, 0, 0, 0, 0, 0, 5, 0, 0, 0, 1, 0, 0, 0]);
+/// itinerary[16..32].copy_from_slice(&[1, 2, 1, 0, 2, 0, 0, 0, 3, 64, 0, 0, 3, 0, 0, 0]);
+/// assert_eq!(step(&mut itinerary, 4, 1), Err(Refusal { number: 11, record: 0 }));
+/// assert_eq!(copy(&mut itinerary, 2), Ok(2));
+/// assert_eq!(itinerary[32..], [1, 2, 1, 0, 1, 0, 0, 0, 3, 64, 0, 0, 5, 0, 0, 0]);
+/// // The copy's out can act. It is gone then, and two are to be copied.
+/// assert_eq!(step(&mut itinerary, 6, 1), Ok(()));
+/// assert_eq!(copy(&mut itinerary, 2), Err(Refusal { number: 18, record: 0 }));
+/// ```
+pub fn copy(itinerary: &mut [u8], number: u16) -> Result<u32, Refusal> {
+    let result = unsafe { raw::hub_copy(itinerary.as_mut_ptr(), itinerary.len(), number) };
+    done(result.number, result.record)?;
+    Ok(result.copied)
+}
+
 /// Lists each pair of actor and partner whose step would be done, by actor and then by
 /// partner, four bytes each as in a script, and counts all pairs by what they would
 /// answer. The bytes of `list` behind the list stay as they were.

@@ -1,7 +1,7 @@
 //! The entries as the archive has them. What a caller owes is in include/birnsket.h.
 
 /// HUB_VERSION of the header that these declarations follow.
-pub const HUB_VERSION: u32 = 0x030100;
+pub const HUB_VERSION: u32 = 0x040000;
 
 /// Results: number and record 0 and the fields named where the call is done, else a refusal's number and record
 /// and zeros.
@@ -25,6 +25,7 @@ results! {
     HubSheetResult {}
     HubStepResult {}
     HubRunResult { ins, outs, opens }
+    HubCopyResult { copied }
     HubMovesResult { done, no_capability, inactive, unfit }
     HubCheckResult {}
     HubJoinResult {}
@@ -67,6 +68,7 @@ extern "C" {
         answers: BytesMut,
         answers_len: usize,
     ) -> HubRunResult;
+    pub fn hub_copy(it: BytesMut, it_len: usize, number: u16) -> HubCopyResult;
     pub fn hub_moves(it: Bytes, it_len: usize, list: BytesMut, list_len: usize) -> HubMovesResult;
     pub fn hub_check(
         it: Bytes,

@@ -424,6 +424,92 @@ fn sets_refused() {
     assert_eq!(joined([&a, &[], &[], &[]], &policy, &[0; TABLE_LENGTH]), Err(refusal(9, 0)));
 }
 
+/// A boundary with a copier, and beneath that a high ambient with an out; then gone records.
+const WASH: [Fields; 6] = [A[0], (5, 0, 0, 1), (1, 2, 1, 2), (3, 64, 0, 3), (0, 0, 0, 0), (0, 0, 0, 0)];
+
+/// What a copy of that number makes of the records, and how many were copied.
+fn copied(records: &[Fields], number: u16) -> Result<(u32, Vec<u8>), Refusal> {
+    let mut itinerary = bytes(records);
+    let copied = copy(&mut itinerary, number);
+    assert!(copied.is_ok() || itinerary == bytes(records));
+    copied.map(|count| (count, itinerary))
+}
+
+#[test]
+fn a_wash_is_copied() {
+    let after = bytes(&[WASH[0], WASH[1], WASH[2], WASH[3], (1, 2, 1, 1), (3, 64, 0, 5)]);
+    assert_eq!(copied(&WASH, 2), Ok((2, after.clone())));
+    // The same tables hold, and the copy's out can act where the other one can't.
+    let (policy, mut tables) = (usual(), [vec![0; TABLE_LENGTH], vec![0; TABLE_LENGTH]]);
+    assert_eq!(make(&bytes(&WASH), &policy, &mut tables[0]), Ok(7));
+    assert_eq!(make(&after, &policy, &mut tables[1]), Ok(7));
+    assert_eq!((check(&after, &policy, &tables[0]), tables[0] == tables[1]), (Ok(()), true));
+    let mut itinerary = after;
+    assert_eq!(step(&mut itinerary, 4, 1), Err(refusal(11, 0)));
+    assert_eq!(step(&mut itinerary, 6, 1), Ok(()));
+    assert_eq!(parent(&itinerary, 5), 0);
+}
+
+#[test]
+fn lowest_gone_records_first() {
+    let gone = (0, 0, 0, 0);
+    let before = [gone, (2, 65, 3, 5), gone, (5, 0, 0, 0), (1, 7, 2, 4), (5, 0, 0, 5), gone, gone];
+    let after = [(2, 65, 3, 3), before[1], (1, 7, 2, 0), before[3], before[4], before[5], (5, 0, 0, 3), gone];
+    assert_eq!(copied(&before, 4), Ok((3, bytes(&after))));
+    // The inner copier's copy is active, with nothing beneath it; the inner one stands beneath the outer.
+    assert_eq!(copied(&after, 7).map(|(count, _)| count), Ok(0));
+    assert_eq!(copied(&after, 6), Err(refusal(17, 0)));
+    assert_eq!(copied(&after, 4), Err(refusal(18, 0)));
+}
+
+#[test]
+fn clients_are_copied() {
+    let mut itinerary = with_clients(&WASH, &[17, 1, 999, 256, 0, 0]);
+    assert_eq!(copy(&mut itinerary, 2), Ok(2));
+    let clients = [1, 2, 3, 4, 5, 6].map(|number| itinerary[8 * number - 2..8 * number].to_vec());
+    assert_eq!((&clients[4], &clients[5]), (&clients[2], &clients[3]));
+}
+
+#[test]
+fn copies_refused() {
+    for number in [0, 1, 3, 4, 5, 6, 7, 258, 1024, u16::MAX] {
+        assert_eq!(copied(&WASH, number), Err(refusal(17, 0)));
+        assert_eq!(copied(&WASH[..4], number), Err(refusal(17, 0)));
+    }
+    assert_eq!(copied(&WASH[..5], 2), Err(refusal(18, 0)));
+    // Behind a capability, and beneath a copier.
+    for above in [(2, 64, 0, 1), (5, 0, 0, 1)] {
+        assert_eq!(copied(&[A[0], above, (5, 0, 0, 2), (1, 2, 1, 3)], 3), Err(refusal(17, 0)));
+    }
+    for (copier, expected) in [
+        ((6, 0, 0, 1), refusal(2, 2)),
+        ((5, 1, 0, 1), refusal(3, 2)),
+        ((5, 64, 1, 1), refusal(3, 2)),
+        ((5, 0, 1, 1), refusal(4, 2)),
+        ((5, 0, 0, 7), refusal(5, 2)),
+        ((5, 0, 0, 3), refusal(6, 2)),
+    ] {
+        let mut records = WASH;
+        records[1] = copier;
+        assert_eq!(copied(&records, 2), Err(expected));
+    }
+    assert_eq!(copy(&mut [0; 7], 0), Err(refusal(1, 0)));
+    let nothing = raw::HubCopyResult { number: 18, record: 0, copied: 0 };
+    let mut few = bytes(&WASH[..5]);
+    assert_eq!(unsafe { raw::hub_copy(few.as_mut_ptr(), few.len(), 2) }, nothing);
+}
+
+#[test]
+fn copiers_are_passed() {
+    assert_eq!(above(&bytes(&WASH), &usual(), 4), (2, 1));
+    assert_eq!(above(&bytes(&WASH), &usual(), 3), (1, 1));
+    assert_eq!(screened(&WASH, &usual()).2, Verdict::Exposed(2));
+    let mut itinerary = bytes(&WASH);
+    assert_eq!(step(&mut itinerary, 2, 1), Err(refusal(10, 0)));
+    let mut itinerary = bytes(&[WASH[0], WASH[1], (4, 64, 0, 1)]);
+    assert_eq!(step(&mut itinerary, 3, 2), Err(refusal(12, 0)));
+}
+
 /// What a line of the header defines.
 fn defined(name: &str) -> &'static str {
     let header = include_str!("../../include/birnsket.h");
@@ -432,8 +518,8 @@ fn defined(name: &str) -> &'static str {
 
 #[test]
 fn the_header_has_the_same_numbers() {
-    assert_eq!(defined("HUB_VERSION "), "0x030100u");
-    assert_eq!((raw::HUB_VERSION, version()), (0x030100, 0x030100));
+    assert_eq!(defined("HUB_VERSION "), "0x040000u");
+    assert_eq!((raw::HUB_VERSION, version()), (0x040000, 0x040000));
     assert_eq!(defined("HUB_POLICY_LENGTH "), POLICY_LENGTH.to_string());
     assert_eq!(defined("HUB_TABLE_LENGTH "), TABLE_LENGTH.to_string());
     assert_eq!(defined("HUB_LONGEST_LIST "), LONGEST_LIST.to_string());
@@ -445,9 +531,9 @@ fn the_header_has_the_same_causes() {
     // Its words in one line, and parts of a string joined.
     let words = header.split_whitespace().collect::<Vec<_>>().join(" ").replace(" \" \"", " ");
     let causes: Vec<String> =
-        (1..17).map(|n| std::format!("return \"{}\";", refusal(n, 0).cause())).collect();
+        (1..19).map(|n| std::format!("return \"{}\";", refusal(n, 0).cause())).collect();
     let found: Vec<usize> = causes.iter().map(|cause| words.find(cause.as_str()).unwrap()).collect();
     assert!(found.is_sorted());
     assert_eq!(words.matches("return \"").count(), causes.len() + 2);
-    assert!((0..100).filter(|&n| refusal(n, 0).cause() != "unknown cause").eq(1..17));
+    assert!((0..100).filter(|&n| refusal(n, 0).cause() != "unknown cause").eq(1..19));
 }

@@ -9,6 +9,7 @@ pub const AMBIENT: u8 = 1;
 pub const IN: u8 = 2;
 pub const OUT: u8 = 3;
 pub const OPEN: u8 = 4;
+pub const COPIER: u8 = 5;
 const LAST_CLIENT: u16 = 999;
 
 #[derive(Clone, Copy)]
@@ -52,14 +53,18 @@ fn fault(itinerary: &[u8], bytes: &[u8]) -> Option<u32> {
         let empty = record.label | record.name | spare == 0 && record.parent | record.client == 0;
         return if empty { None } else { Some(2) };
     }
-    if record.kind > OPEN || spare != 0 || record.client > LAST_CLIENT {
+    if record.kind > COPIER || spare != 0 || record.client > LAST_CLIENT {
         return Some(2);
     }
-    let labels = if record.kind == AMBIENT { 1..=63 } else { 64..=127 };
+    let (labels, last_name) = match record.kind {
+        AMBIENT => (1..=63, 63),
+        COPIER => (0..=0, 0),
+        _ => (64..=127, 63),
+    };
     if !labels.contains(&record.label) {
         return Some(3);
     }
-    if record.name > 63 {
+    if record.name > last_name {
         return Some(4);
     }
     if record.parent != 0 && Record::at(itinerary, record.parent).kind == 0 {

@@ -1,6 +1,7 @@
 //! The library's algorithms in safe Rust, with the same answers.
 
 mod closure;
+mod copy;
 mod itinerary;
 mod join;
 mod moves;
@@ -9,6 +10,7 @@ pub mod skipping;
 mod steps;
 mod tables;
 
+pub use copy::copy;
 pub use itinerary::{climb, validate};
 pub use join::join;
 pub use moves::{moves, same_names};

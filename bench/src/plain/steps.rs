@@ -15,7 +15,7 @@ struct Move {
 }
 
 /// Whether `number` and all records above it are ambients.
-fn all_ambients(itinerary: &[u8], number: u16) -> bool {
+pub fn all_ambients(itinerary: &[u8], number: u16) -> bool {
     let mut at = number;
     while at != 0 {
         let record = Record::at(itinerary, at);

@@ -1,7 +1,7 @@
 //! Policy and table: refusals 7 and 8, check, maker, verdict and exposed.
 
 use super::closure::{transposed, Partners};
-use super::itinerary::{nearest_labels, records, validate, AMBIENT, IN};
+use super::itinerary::{nearest_labels, records, validate, AMBIENT, IN, OPEN};
 use super::refuse;
 use birnsket::{Refusal, Verdict, TABLE_LENGTH};
 
@@ -62,7 +62,7 @@ impl Table {
         let mut table = Table::empty();
         table.suspects = highs(policy);
         let labels = nearest_labels(itinerary);
-        for record in records(itinerary).filter(|record| record.kind != 0) {
+        for record in records(itinerary).filter(|record| (AMBIENT..=OPEN).contains(&record.kind)) {
             let outer = usize::from(labels[usize::from(record.parent)]);
             if record.kind == AMBIENT {
                 table.ambients[outer] |= 1 << record.label;
@@ -79,7 +79,7 @@ impl Table {
         let bearers = transposed(&self.names);
         let mut partners = [[0; 64]; 3];
         let all = itineraries.iter().flat_map(|itinerary| records(itinerary));
-        for record in all.filter(|record| record.kind >= IN) {
+        for record in all.filter(|record| (IN..=OPEN).contains(&record.kind)) {
             partners[usize::from(record.kind - IN)][usize::from(record.label - 64)] |=
                 bearers[usize::from(record.name)];
         }
@@ -89,7 +89,7 @@ impl Table {
     /// Whether all records may stand where they stand and bear their names.
     fn nests(&self, itinerary: &[u8]) -> bool {
         let labels = nearest_labels(itinerary);
-        records(itinerary).filter(|record| record.kind != 0).all(|record| {
+        records(itinerary).filter(|record| (AMBIENT..=OPEN).contains(&record.kind)).all(|record| {
             let named =
                 record.kind != AMBIENT || self.names[usize::from(record.label)] >> record.name & 1 == 1;
             named && self.has(labels[usize::from(record.parent)], record.label)

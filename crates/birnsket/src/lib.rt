@@ -2,11 +2,12 @@
 #![tactic(auto, unfolding(packing::specs::Packing::version))]
 
 ghost use Rattle.std.specs.Prelude.{◌≡◌};
-ghost use Rattle.model.specs.Calls.{check_answer, climb_answer, exposed_answer, join_after, join_answer, make_after, make_answer, moves_after, moves_answer, run_after, run_answer, run_answers, screen_after, screen_answer, screen_answers, sheet_after, sheet_answer, step_after, step_answer, validate_answer, verdict_answer};
+ghost use Rattle.model.specs.Calls.{check_answer, climb_answer, copy_after, copy_answer, exposed_answer, join_after, join_answer, make_after, make_answer, moves_after, moves_answer, run_after, run_answer, run_answers, screen_after, screen_answer, screen_answers, sheet_after, sheet_answer, step_after, step_answer, validate_answer, verdict_answer};
 ghost use Rattle.model.specs.Joins.{four};
-ghost use Rattle.packing.specs.Packing.{climb_result, done_result, exposed_result, make_result, moves_result, row_result, run_result, screen_result, validate_result, verdict_result, version};
+ghost use Rattle.packing.specs.Packing.{climb_result, copy_result, done_result, exposed_result, make_result, moves_result, row_result, run_result, screen_result, validate_result, verdict_result, version};
 
 use packing::climb::HubClimbResult;
+use packing::copy::HubCopyResult;
 use packing::exposed::HubExposedResult;
 use packing::make::HubMakeResult;
 use packing::moves::HubMovesResult;
@@ -22,7 +23,7 @@ use packing::verdict::HubVerdictResult;
 pub extern "C" fn hub_version() -> u32
     ensures { result ≡ version }
 {
-    196864
+    262144
 }
 
 // Validates an itinerary: the number of records.
@@ -67,6 +68,15 @@ pub extern "C" fn hub_run(it: &mut [u8], script: &[u8], answers: &mut [u8]) -> H
     ensures answers { answers.new ≡ run_answers it.old script.now answers.old }
 {
     calls::run(it, script, answers).into()
+}
+
+// Copies what stands beneath a replication, beside it: how many were copied.
+#[unsafe(no_mangle)]
+pub extern "C" fn hub_copy(it: &mut [u8], number: u16) -> HubCopyResult
+    ensures answer { result ≡ copy_result (copy_answer it.old number) }
+    ensures itinerary { it.new ≡ copy_after it.old number }
+{
+    calls::copy(it, number).into()
 }
 
 // Writes the list of moves: how many pairs of actor and partner would answer 0, 10, 11 and 12.

@@ -3,7 +3,7 @@
 #![tactic(auto)]
 
 ghost use Rattle.std.specs.Prelude.{◌≡◌, ◌+◌};
-ghost use Rattle.model.specs.Calls.{check_answer, climb_answer, exposed_answer, join_after, join_answer, make_after, make_answer, moves_after, moves_answer, row_of, row_start, run_after, run_answer, run_answers, screen_after, screen_answer, screen_answers, sheet_after, sheet_answer, step_after, step_answer, validate_answer, verdict_answer};
+ghost use Rattle.model.specs.Calls.{check_answer, climb_answer, copy_after, copy_answer, exposed_answer, join_after, join_answer, make_after, make_answer, moves_after, moves_answer, row_of, row_start, run_after, run_answer, run_answers, screen_after, screen_answer, screen_answers, sheet_after, sheet_answer, step_after, step_answer, validate_answer, verdict_answer};
 ghost use Rattle.model.specs.Numbers.{answer_as};
 ghost use Rattle.model.specs.Joins.{four};
 
@@ -69,6 +69,19 @@ pub fn run(it: &mut [u8], script: &[u8], answers: &mut [u8]) -> Result<Counts, R
 {
     sequences::running(it, script, answers)?;
     Ok(scripts::run(it, script, answers))
+}
+
+// Copies what stands beneath a replication, beside it; how many were copied: refusals 1 to 6, 17, 18.
+#[tactic(auto, unfolding(model::specs::Calls::copy_answer, model::specs::Calls::copy_after, model::specs::Numbers::answer_as, model::specs::Numbers::check_as, model::specs::Numbers::refusal, model::specs::Refusals::answer, model::specs::Refusals::content))]
+pub fn copy(it: &mut [u8], number: u16) -> Result<u16, Refusal>
+    ensures answer { answer_as result ≡ copy_answer it.old number }
+    ensures itinerary { it.new ≡ copy_after it.old number }
+{
+    let mut originals = [0u16; 1024];
+    let mut places = [0u16; 1024];
+    let (n, m) = sequences::copying(it, number, &mut originals, &mut places)?;
+    copies::write(it, number, &originals[..n], &places[..m]);
+    Ok(n as u16)
 }
 
 // The table check.

@@ -7,3 +7,4 @@ pub mod Tabled
 pub mod Witness
 pub mod Clients
 pub mod Joined
+pub mod Copied

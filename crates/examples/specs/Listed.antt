@@ -22,7 +22,7 @@ use Rattle.model.proofs.Laws.Made.{made-accepted}
 use Rattle.model.proofs.Laws.Sets.{bits-bytes, bytes-narrow, length-bytes}
 use Rattle.model.specs.Least.{bytes, least_table, numeral}
 use Rattle.model.specs.Listing.{content_of, digits_in, end_line, end_word, field, last_field, listing, refused_word, step_lines, verdict_word}
-use Rattle.model.specs.Noninterference.{after, after_event, all_steps, given, given_by, kept, steps_of}
+use Rattle.model.specs.Noninterference.{after, after_event, all_steps, given, given_by, kept, steps_of, without_copying}
 use Rattle.model.specs.Observer.{on_sheet, sheet}
 use Rattle.model.specs.Records.{at, byte_of, capability, count, decode, encode, is_ambient, nested, records, update_from}
 use Rattle.model.specs.Refusals.{and_then, answer, content, done, each_of, need, pass}
@@ -36,7 +36,7 @@ use Rattle.model.specs.declared.Verdict.{Verdict}
 
 -- what the examples compute with: to unfold this is to unfold all that its line names
 unfoldable pub computing : ℕ
-unfolding form entry comparing size_right kind_right spare_right client_right blank gone_right label_in label_by label_right name_by name_right parent_right record_check climb_check validity count byte_of decode records tabulate at is_ambient nested view_from reaches need and_then each_of view labelled capability every only_if rule_holds rules_hold record_holds holds is_high place_i place_h place_s is_in some_of lowest marked alike joins grown growing reached opening in_r is_boundary verdict_by verdict_of encode update_from ambient_and placed place dissolved dissolve ready stands fit move decide outcome_by outcome answer_of rewritten step_bytes outcome_check stepping step_answer step_after answer content step_in steps_in script_right after_list outcomes answers_of running run_after run_answers after_event after kept steps_of all_steps given_by given hides is_suspect sheet on_sheet policy_right total bytes numeral one_if ones ones_in validate_answer screening tally not_gone counts_of how_many done_by kind_of screen_answers content_of digits_in field last_field verdict_word end_word refused_word step_lines end_line listing label_of rec classes all_low records_a itinerary_a itinerary_b itinerary_c itinerary_d itinerary_e itinerary_f itinerary_g itinerary_h
+unfolding form entry comparing size_right kind_right spare_right client_right blank gone_right label_in label_by label_right name_by name_right parent_right record_check climb_check validity count byte_of decode records tabulate at is_ambient nested view_from reaches need and_then each_of view labelled capability every only_if rule_holds rules_hold record_holds holds is_high place_i place_h place_s is_in some_of lowest marked alike joins grown growing reached opening in_r is_boundary verdict_by verdict_of encode update_from ambient_and placed place dissolved dissolve ready stands fit move decide outcome_by outcome answer_of rewritten step_bytes outcome_check stepping step_answer step_after answer content step_in steps_in script_right after_list outcomes answers_of running run_after run_answers after_event after kept steps_of all_steps given_by given without_copying hides is_suspect sheet on_sheet policy_right total bytes numeral one_if ones ones_in validate_answer screening tally not_gone counts_of how_many done_by kind_of screen_answers content_of digits_in field last_field verdict_word end_word refused_word step_lines end_line listing label_of rec classes all_low records_a itinerary_a itinerary_b itinerary_c itinerary_d itinerary_e itinerary_f itinerary_g itinerary_h
 computing = 0
 
 unfoldable pub all_below : ℕ → List ℕ → Bool

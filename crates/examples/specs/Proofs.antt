@@ -4,7 +4,7 @@ use Rattle.std.specs.Prelude.{◌/◌, ℕ, eqb, length, replicate, ◌&&◌, fa
 use borrow.Author.Tests.{leb-true, ne_eqb}
 use Rattle.std.proofs.Math.Dec.{leb}
 use Rattle.std.specs.Bool.{beq}
-use Rattle.std.proofs.Common.{ap, arith}
+use Rattle.std.proofs.Common.{ap, arith, le-leb}
 use Rattle.examples.specs.Claims.{Meets, all_low, classes, examples, is_in, itinerary_a, itinerary_b, itinerary_c, itinerary_d, itinerary_e, itinerary_f, itinerary_g, right_g, script_b, text_b, writes}
 use Rattle.examples.specs.Listed.{Listed, all_below, computing, listed-makes, listed-screen, listed-suspects}
 use Rattle.model.specs.Calls.{screen_answers, validate_answer}
@@ -144,9 +144,9 @@ module _ (kind label name : ℕ) (h : right_g kind label name ≡ true) where
   unfolding right_g nested
   kind-some = ne_eqb kind 0 (λ e. omega (arith, leb-true 1 kind (and_left _ _ (and_left _ _ h)), e))
 
-  kind-most : leb kind 4 ≡ true
+  kind-most : leb kind 5 ≡ true
   unfolding right_g nested
-  kind-most = and_right (leb 1 kind) _ (and_left _ _ h)
+  kind-most = le-leb kind 5 (omega (arith, leb-true kind 4 (and_right (leb 1 kind) _ (and_left _ _ h))))
 
   label-right : label_by (leb 1 kind && leb kind 4) (eqb kind 1) label ≡ true
   unfolding right_g nested label_right is_ambient

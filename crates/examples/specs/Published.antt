@@ -18,7 +18,7 @@ use Rattle.model.specs.declared.Rec.{Rec}
 use Rattle.model.specs.declared.Capability.TheVariants.{In as cap-in, Open as cap-open, Out as cap-out}
 
 -- a reading is the itinerary where a test finds each record that is not gone exactly once
-means-by : (its : List Rec) {P : Process} (r : Reads its 0 P) → every (suc (length its)) (λ i. unequal (at its i).kind 0) (λ i. eqb (times r i) 1) ≡ true → Means its P
+pub means-by : (its : List Rec) {P : Process} (r : Reads its 0 P) → every (suc (length its)) (λ i. unequal (at its i).kind 0) (λ i. eqb (times r i) 1) ≡ true → Means its P
 means-by its r e = record {
   reading = r;
   once = λ i l. eqb-true _ 1 (every-use _ _ (suc (length its)) e i (omega (arith, alive-in its i l)) (ap not (ne_eqb _ 0 l)));
@@ -79,5 +79,5 @@ published-journey = (means-by _ read-departure refl, refl, means-by _ read-arriv
 pub published-chain : (Q : Process) × Chain permit_all 3 departure Q × Congruent Q arrival
 unfolding computing packet journey done_in
 published-chain =
-    let w = (follows-rules packet 6 refl).chained published-journey.0 journey in
+    let w = (follows-rules packet 6 refl).chained published-journey.0 journey refl in
     (w.0, w.1, (follows-rules (after packet journey) 6 refl).unique w.2 published-journey.2)

@@ -1,4 +1,4 @@
-// Reads first.bin, second.bin, third.bin and fourth.bin, and writes the bytes of the itinerary that they are joined; an unused
+// Reads first.bin, second.bin, third.bin and fourth.bin, and writes the bytes of the itinerary that they are joined to; an unused
 // place is an empty file. It fails closed: where a file can't be read, a member is refused, or they have more than 1,024 records
 // together, it writes one byte, which is no itinerary, and on standard error what is wrong: the file and what the system says of
 // it, or the cause, for a member with its file and record.

@@ -1,5 +1,4 @@
--- What document 02's Job 6 promises of joining, and the sequence of the call with the members' tables in place of the join's. A join
--- is taken apart member by member, each with the others behind it.
+-- What document 02's Job 6 promises of joining. A join is taken apart member by member, each with the others behind it.
 use Rattle.std.specs.Prelude.{◌*◌, ◌+◌, ◌/◌, ◌<◌, suc, zero, ℕ, length, map, Bool, ◌&&◌, true, List, [], ◌++◌, ◌∷◌, ◌≡◌}
 use Rattle.std.proofs.Common.{◌∙◌, ap, ap₂, sym, arith}
 use mathlib.Core.List.{append-nil}

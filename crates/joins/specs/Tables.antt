@@ -13,21 +13,12 @@ use Rattle.model.specs.Tables.{Table}
 use Rattle.model.specs.declared.Rec.{Rec}
 use Rattle.model.proofs.Laws.Booleans.{and_left, and-make, and_right, bool_iff}
 use Rattle.model.proofs.Laws.Containers.{labelled-same}
-use Rattle.model.proofs.Laws.Done.{same-amb}
-use Rattle.model.proofs.Laws.Holding.{Fits, Holds, fits-other, holds-complete, holds-sound}
+use Rattle.model.proofs.Laws.Holding.{Fits, Holds, fits-as, fits-other, holds-complete, holds-sound}
 use Rattle.model.proofs.Laws.Updates.{at-over}
-use Rattle.model.proofs.Laws.WellFormed.{SameBut, WellFormed, parent_in, same-nested}
+use Rattle.model.proofs.Laws.WellFormed.{SameBut, WellFormed, parent_in}
 
 pub back : {r r' : Rec} → SameBut r r' → SameBut r' r
 back s = record { kind = sym s.kind; label = sym s.label; name = sym s.name; client = sym s.client }
-
--- what fits a record fits one that differs in the parent alone
-fits-as : {permit : Permit} {T : Table} {c c' : ℕ} {r r' : Rec} → SameBut r r' → c' ≡ c → Fits permit T c r → Fits permit T c' r'
-fits-as s e f = record {
-  nest = λ h. rw (e, s.label) (f.nest (sym (same-nested s) ∙ h));
-  names = λ h. rw (s.label, s.name) (f.names (sym (same-amb s) ∙ h));
-  rules = λ k h. rw (s.label, s.name) (f.rules k (rw s.kind at h));
-}
 
 module _ {xs ys : List Rec} (wx : WellFormed xs) (wy : WellFormed ys) where
   pub container-first : (i : ℕ) → i ≤ length xs → container (both xs ys) i ≡ container xs i

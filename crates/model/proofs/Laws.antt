@@ -1,6 +1,7 @@
 -- What is proved of the definitions.
 pub mod Booleans
 pub mod Finite
+pub mod Numbers
 pub mod Forest
 pub mod Updates
 pub mod WellFormed
@@ -21,6 +22,7 @@ pub mod Hiding
 pub mod Sheet
 pub mod Simulation
 pub mod Boundary
+pub mod Copying
 pub mod Lists
 pub mod Secrecy
 pub mod Conservation
@@ -32,6 +34,8 @@ pub mod Moves
 pub mod Finding
 pub mod Reductions
 pub mod Chains
+pub mod Unfolding
 pub mod Adequacy
 pub mod MoveList
 pub mod Clients
+pub mod Copies

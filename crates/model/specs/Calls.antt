@@ -3,12 +3,13 @@
 use Rattle.std.specs.Prelude.{◌*◌, ℕ, eqb, leb, drop, length, take, Bool, ◌&&◌, false, true, List, []}
 use Rattle.model.specs.Analysis.{permit_all, holds}
 use Rattle.model.specs.Climbing.{enclosure}
+use Rattle.model.specs.Copies.{active_replication, beneath, copy, copy_fits}
 use Rattle.model.specs.Finite.{over}
 use Rattle.model.specs.Joins.{join_bytes, members_check, set_right}
 use Rattle.model.specs.Least.{least_table}
 use Rattle.model.specs.MoveList.{list_bytes, moves, tally_of}
 use Rattle.model.specs.Observer.{sheet_of}
-use Rattle.model.specs.Records.{count, records}
+use Rattle.model.specs.Records.{count, encode, records}
 use Rattle.model.specs.Refusals.{Answer, Check, ◌▸◌, answer, content, need, pass, refuse}
 use Rattle.model.specs.Scripts.{after_list, answers_of, counts_of, not_gone, steps_in, outcomes, script_right}
 use Rattle.model.specs.Steps.{Outcome, done-by, outcome, step_bytes, refused-with}
@@ -154,6 +155,21 @@ join_answer members policy table buffer = answer (joining members policy table b
 -- the lent buffer after the call: "on any refusal the buffer is unchanged"
 unfoldable pub join_after : List (List ℕ) → List ℕ → List ℕ → List ℕ → List ℕ
 join_after members policy table buffer = content (joining members policy table buffer) (join_bytes members) buffer
+
+-- document 02, Job 7: 1 to 6, "17 a number that is no active copier, and then with 18"
+unfoldable pub copying : List ℕ → ℕ → Check
+copying s c =
+    validity s
+    ▸ need (active_replication (records s) c) 17 0
+    ▸ need (copy_fits (records s) c) 18 0
+
+-- the copy returns how many records were copied
+unfoldable pub copy_answer : List ℕ → ℕ → Answer ℕ
+copy_answer s c = answer (copying s c) (length (beneath (records s) c))
+
+-- the lent itinerary after the copy
+unfoldable pub copy_after : List ℕ → ℕ → List ℕ
+copy_after s c = content (copying s c) (encode (copy c (records s))) s
 
 -- the part, or the empty one
 unfoldable pub part_if : Bool → List ℕ → List ℕ

@@ -1,5 +1,5 @@
 -- Document 01, "Climbing from a record to its parent", "above", "container", "hidden".
-use Rattle.std.specs.Prelude.{suc, zero, ℕ, length, Bool, ◌&&◌, false, true, List}
+use Rattle.std.specs.Prelude.{suc, zero, ℕ, eqb, length, Bool, ◌&&◌, false, true, List}
 use Rattle.model.specs.Records.{at, is_ambient, parent_of}
 use Rattle.model.specs.Tables.{is_boundary}
 use Rattle.model.specs.declared.Above.{Above}
@@ -83,6 +83,14 @@ ambients_only = record { top = true; lost = false; make = λ i. ambient_and }
 -- number i and all records above it are ambients: 01's "active" asks this of a capability's parent (`ready`)
 abbrev pub ambients : List Rec → ℕ → Bool
 ambients its i = view ambients_only its i
+
+-- document 02, Job 7, "beneath": whether number i has record c above it
+abbrev pub below : ℕ → View Bool
+below c = record { top = false; lost = false; make = λ i r x. elim (eqb r.parent c) [ true ↦ true | false ↦ x ] }
+
+-- record i stands beneath record c
+abbrev pub is_beneath : List Rec → ℕ → ℕ → Bool
+is_beneath its c i = view (below c) its i
 
 -- "An ambient is suspect .. as its label is."
 unfoldable pub is_suspect : (ℕ → Bool) → Rec → Bool

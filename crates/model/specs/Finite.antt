@@ -23,6 +23,17 @@ unfoldable pub tabulate : {A : Type 0} → ℕ → ℕ → (ℕ → A) → List 
 tabulate i zero f = []
 tabulate i (suc n) f = f i ∷ tabulate (suc i) n f
 
+-- the n numbers from i on that pass the test t
+unfoldable pub numbers : (ℕ → Bool) → ℕ → ℕ → List ℕ
+numbers t i zero = []
+numbers t i (suc n) = elim (t i) [ true ↦ i ∷ numbers t (suc i) n | false ↦ numbers t (suc i) n ]
+
+-- what stands in the list ys where n stands in xs, 0 if nothing does
+unfoldable pub across : List ℕ → List ℕ → ℕ → ℕ
+across [] ys n = 0
+across (x ∷ xs) [] n = 0
+across (x ∷ xs) (y ∷ ys) n = elim (eqb n x) [ true ↦ y | false ↦ across xs ys n ]
+
 -- the lists f i, f (i + 1), .., n of them, one after another
 unfoldable pub joined : {A : Type 0} → ℕ → ℕ → (ℕ → List A) → List A
 joined i zero f = []

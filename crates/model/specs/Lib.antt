@@ -14,6 +14,7 @@ pub mod Verdicts
 pub mod Scripts
 pub mod MoveList
 pub mod Joins
+pub mod Copies
 pub mod Calls
 pub mod Numbers
 pub mod Listing

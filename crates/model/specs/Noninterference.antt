@@ -6,7 +6,7 @@
 -- each step of the list whose actor stood on the sheet just before that step got the same answer in both."
 -- Its proof is in Laws/Secrecy.
 use Rattle.std.specs.Prelude.{◌<◌, suc, ℕ, get_or, length, replicate, take, Bool, false, true, List, [], ◌++◌, ◌∷◌, ◌≢◌, ◌≡◌}
-use Rattle.model.specs.Calls.{check_answer, run_after, run_answers, step_after, step_answer, verdict_answer}
+use Rattle.model.specs.Calls.{check_answer, copy_after, run_after, run_answers, step_after, step_answer, verdict_answer}
 use Rattle.model.specs.Climbing.{climb}
 use Rattle.model.specs.Finite.{Each}
 use Rattle.model.specs.Observer.{sheet_of}
@@ -17,15 +17,17 @@ use Rattle.model.specs.Tables.{is_boundary, is_high, suspects}
 use Rattle.model.specs.declared.Verdict.TheVariants.{Sealed}
 
 -- "refused steps included, singly or in scripts": a single step by any numbers, or a run of any script, with the length of its
--- answers
+-- answers; document 02, Job 7: "Lists that include copying", by any number
 pub data Event : Type 0 where
   single : (actor partner : ℕ) → Event
   script : (bytes : List ℕ) (room : ℕ) → Event
+  copying : (number : ℕ) → Event
 
 -- the itinerary after an event
 unfoldable pub after_event : List ℕ → Event → List ℕ
 after_event s (single actor partner) = step_after s actor partner
 after_event s (script z room) = run_after s z (replicate room 0)
+after_event s (copying c) = copy_after s c
 
 -- "Each step gets the itinerary that the step before it left, and nobody else writes it meanwhile.": the itinerary after a list
 -- of events
@@ -38,10 +40,11 @@ unfoldable pub kept : {A : Type 0} → Bool → List A → List A
 kept true xs = xs
 kept false xs = []
 
--- "A script run stands in it for its steps in order; a run refused with 13 stands for none."
+-- "A script run stands in it for its steps in order; a run refused with 13 stands for none."; a copy is no step
 unfoldable pub steps_of : Event → List Step
 steps_of (single actor partner) = record { actor = actor; partner = partner } ∷ []
 steps_of (script z room) = kept (script_right z room) (steps_in z)
+steps_of (copying c) = []
 
 -- the flattened list of steps
 unfoldable pub all_steps : List Event → List Step
@@ -52,11 +55,19 @@ all_steps (e ∷ es) = steps_of e ++ all_steps es
 unfoldable pub given_by : List ℕ → Event → List ℕ
 given_by s (single actor partner) = number (step_answer s actor partner) ∷ []
 given_by s (script z room) = kept (script_right z room) (run_answers s z (replicate room 0))
+given_by s (copying c) = []
 
 -- the answers that a list of events gave to its steps
 unfoldable pub given : List ℕ → List Event → List ℕ
 given s [] = []
 given s (e ∷ es) = given_by s e ++ given (after_event s e) es
+
+-- "lists without copying"
+unfoldable pub without_copying : List Event → Bool
+without_copying [] = true
+without_copying (single actor partner ∷ es) = without_copying es
+without_copying (script z room ∷ es) = without_copying es
+without_copying (copying c ∷ es) = false
 
 -- the itinerary after single steps
 unfoldable pub after_steps : List ℕ → List Step → List ℕ
@@ -67,7 +78,7 @@ after_steps s (m ∷ ms) = after_steps (step_after s m.actor m.partner) ms
 unfoldable pub step_at : List Event → ℕ → Step
 step_at es n = get_or (all_steps es) n (record { actor = 0; partner = 0 })
 
--- "just before that step": the itinerary just before the n-th
+-- "just before that step": the itinerary just before the n-th, of a list without copying
 unfoldable pub before : List ℕ → List Event → ℕ → List ℕ
 before s es n = after_steps s (take n (all_steps es))
 
@@ -92,7 +103,8 @@ HighGuarded policy s = (i : ℕ) → is_ambient (at (records s) i) ≡ true → 
 abbrev pub OnSheet : List ℕ → List ℕ → ℕ → Type 0
 OnSheet table s i = (at (records (sheet_of s table)) i).kind ≢ 0
 
--- "after the list": what a list of events keeps of two itineraries x and y
+-- "after the list": what a list of events keeps of two itineraries x and y. Document 02, Job 7: "Lists that include copying keep every
+-- suspect ambient under a boundary; equal sheets and answers are for lists without copying"
 pub record Noninterference (policy table x y : List ℕ) (es : List Event) : Type 0 where
   -- "every suspect ambient in either itinerary", x and y
   pub guarded : SuspectsGuarded policy table (after x es)
@@ -100,10 +112,10 @@ pub record Noninterference (policy table x y : List ℕ) (es : List Event) : Typ
   -- "and so every high one"
   pub high : HighGuarded policy (after x es)
   pub high' : HighGuarded policy (after y es)
-  -- "The two sheets by that same table are equal again, byte for byte."
-  pub sheets : sheet_of (after x es) table ≡ sheet_of (after y es) table
-  -- "each step of the list whose actor stood on the sheet just before that step got the same answer in both"
-  pub answers : (n : ℕ) → n < length (all_steps es) → OnSheet table (before x es n) (step_at es n).actor →
+  -- "The two sheets by that same table are equal again, byte for byte.", where no event is a copy
+  pub sheets : without_copying es ≡ true → sheet_of (after x es) table ≡ sheet_of (after y es) table
+  -- "each step of the list whose actor stood on the sheet just before that step got the same answer in both", where no event is a copy
+  pub answers : without_copying es ≡ true → (n : ℕ) → n < length (all_steps es) → OnSheet table (before x es n) (step_at es n).actor →
       get_or (given x es) n 0 ≡ get_or (given y es) n 0
 
 -- the whole of demand 3
@@ -131,7 +143,8 @@ pub record ScreenedFor (x : List ℕ) (c : Client) : Type 0 where
   pub accepted : check_answer x c.policy c.table ≡ done tt
   pub sealed : verdict_answer x c.policy c.table ≡ done Sealed
 
--- a client sees the sheet by its table: whatever else the bench could be that looks the same to it stays looking the same
+-- a client sees the sheet by its table: whatever else the bench could be that looks the same to it
+-- stays looking the same after lists without copying
 abbrev pub KeptFrom : List ℕ → Client → Type 0
 KeptFrom x c = (y : List ℕ) → length x ≡ length y → check_answer y c.policy c.table ≡ done tt →
     sheet_of x c.table ≡ sheet_of y c.table → (es : List Event) → Noninterference c.policy c.table x y es

@@ -27,6 +27,8 @@ number_of cause.Script = 13
 number_of cause.Sheet = 14
 number_of cause.List = 15
 number_of cause.Set = 16
+number_of cause.Replication = 17
+number_of cause.Room = 18
 
 -- the refusal of a cause that is no record's: "record 0"
 unfoldable pub unplaced : Cause → Refusal

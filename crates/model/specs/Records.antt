@@ -71,6 +71,10 @@ update f its = update_from f 1 its
 unfoldable pub is_ambient : Rec → Bool
 is_ambient r = eqb r.kind 1
 
+-- document 02, Job 7: "Kind 5 is a copier": the calculus's replication
+unfoldable pub is_replication : Rec → Bool
+is_replication r = eqb r.kind 5
+
 -- "2 in, 3 out, 4 open"
 unfoldable pub capability : ℕ → Option Capability
 capability zero = None

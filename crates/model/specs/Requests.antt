@@ -1,17 +1,19 @@
--- Document 02: what its Jobs promise of the calls beside their definitions, as propositions. Their proofs are in Laws.
-use Rattle.std.specs.Prelude.{◌*◌, ◌+◌, ◌<◌, ◌≤◌, suc, ℕ, eqb, length, map, Bool, ◌&&◌, false, true, List, [], ◌++◌, ◌∷◌, ◌≢◌, ◌≡◌, ◌⊎◌}
+-- Document 02: what its Jobs promise of the calls beside their definitions, as propositions. Their proofs are in Laws, those of Job 6 in the crate joins.
+use Rattle.std.specs.Prelude.{◌*◌, ◌+◌, ◌<◌, ◌≤◌, suc, ℕ, eqb, get_or, length, map, Bool, ◌&&◌, false, true, List, [], ◌++◌, ◌∷◌, ◌≢◌, ◌≡◌, ◌⊎◌}
 use Rattle.std.specs.List.{Contains}
 use Rattle.model.specs.Analysis.{Permit, holds, permit_all}
-use Rattle.model.specs.Calls.{check_answer, climb_answer, exposed_answer, join_after, join_answer, make_after, make_answer, moves_answer, moving, step_answer, verdict_answer}
+use Rattle.model.specs.Calls.{check_answer, climb_answer, copy_after, copy_answer, exposed_answer, join_after, join_answer, make_after, make_answer, moves_answer, moving, step_answer, verdict_answer}
 use Rattle.model.specs.Climbing.{climb, container}
+use Rattle.model.specs.Copies.{beneath, copy_parent, gones}
 use Rattle.model.specs.Finite.{Each, summed, tally}
 use Rattle.model.specs.Joins.{four, join, join_bytes}
 use Rattle.model.specs.MoveList.{answering, list_bytes, moves}
-use Rattle.model.specs.Noninterference.{BoundaryAt, Event, Noninterference, OnSheet, UnderBoundary, after}
+use Rattle.model.specs.Noninterference.{BoundaryAt, Event, Noninterference, OnSheet, UnderBoundary, after, without_copying}
 use Rattle.model.specs.Observer.{sheet_of}
-use Rattle.model.specs.Records.{at, count, parent_of, records}
+use Rattle.model.specs.Records.{at, count, is_replication, parent_of, records}
 use Rattle.model.specs.Refusals.{done, number, pass, read_off}
-use Rattle.model.specs.Scripts.{Step, steps_in}
+use Rattle.model.specs.Scripts.{Step, not_gone, steps_in}
+use Rattle.model.specs.Steps.{to}
 use Rattle.model.specs.Tables.{Table}
 use Rattle.model.specs.Validity.{validity}
 use Rattle.model.specs.declared.Above.{Above}
@@ -86,9 +88,10 @@ TallyOfSteps = (s : List ℕ) → validity s ≡ pass → (x : ℕ) → answerin
 abbrev pub ListIsScript : Type 0
 ListIsScript = (s : List ℕ) → validity s ≡ pass → steps_in (list_bytes (moves permit_all (records s))) ≡ moves permit_all (records s)
 
--- Job 4: "kept by every move": a record that stands after a list of events has the client that it had
+-- Job 4: "kept by every move": a record that stands after a list of events has the client that it had, where no event is a copy,
+-- which fills gone records (`CopyKeeps` says with what)
 abbrev pub ClientsKept : Type 0
-ClientsKept = (s : List ℕ) (es : List Event) (i : ℕ) → validity s ≡ pass →
+ClientsKept = (s : List ℕ) (es : List Event) (i : ℕ) → validity s ≡ pass → without_copying es ≡ true →
     (at (records (after s es)) i).kind ≢ 0 → (at (records (after s es)) i).client ≡ (at (records s) i).client
 
 -- a record without its client
@@ -135,7 +138,7 @@ abbrev pub JoinValid : Type 0
 JoinValid = (members : List (List ℕ)) → Valid members → length (join members) ≤ 1024 →
     (validity (join_bytes members) ≡ pass) × (records (join_bytes members) ≡ join members)
 
--- Job 6: "an unused place is an itinerary of no records": three of them, wherever they are, give back the member's bytes
+-- Job 6: "an unused place is an itinerary of no records": any number of them, wherever they are, give back the member's bytes
 abbrev pub JoinAlone : Type 0
 JoinAlone = (before after : List (List ℕ)) (s : List ℕ) → Each (λ u. u ≡ []) before → Each (λ u. u ≡ []) after → validity s ≡ pass →
     Each (λ x. x < 256) s → join_bytes (before ++ s ∷ after) ≡ s
@@ -161,3 +164,29 @@ JoinSecrecy = (policy table : List ℕ) (xs ys : List (List ℕ)) (bx by : List 
     verdict_answer x policy table ≡ done Sealed →
     sheet_of x table ≡ sheet_of y table →
     (es : List Event) → Noninterference policy table x y es
+
+-- what Job 7 says of a copy that is done, of n records
+pub record CopyKeeps (s : List ℕ) (c n : ℕ) : Type 0 where
+  -- the itinerary stays valid, with as many records
+  pub valid : validity (copy_after s c) ≡ pass
+  pub long : length (copy_after s c) ≡ length s
+  -- "Records not gone grow by the number copied."
+  pub grows : not_gone (records (copy_after s c)) ≡ not_gone (records s) + n
+  -- a table that holds stays so, by any permit, and an accepted one accepted
+  pub holds : (permit : Permit) (policy : List ℕ) (T : Table) → holds permit policy (records s) T ≡ true → holds permit policy (records (copy_after s c)) T ≡ true
+  pub accepted : (policy table : List ℕ) → check_answer s policy table ≡ done tt → check_answer (copy_after s c) policy table ≡ done tt
+  -- "The k-th of them by number goes into the k-th gone record by number", all but its parent as it is
+  pub filled : (k : ℕ) → k < n → let o : ℕ = get_or (beneath (records s) c) k 0 in
+      at (records (copy_after s c)) (get_or (gones (records s)) k 0) ≡ to (copy_parent (records s) c (parent_of (records s) o)) (at (records s) o)
+  -- every other record stays
+  pub others : (i : ℕ) → ((k : ℕ) → k < n → i ≢ get_or (gones (records s)) k 0) → at (records (copy_after s c)) i ≡ at (records s) i
+
+-- Job 7: "copies all records beneath it"
+abbrev pub CopyKept : Type 0
+CopyKept = (s : List ℕ) (c n : ℕ) → copy_answer s c ≡ done n → CopyKeeps s c n
+
+-- a replication is no actor and no partner: a step by it answers 10, and no step with it as its partner is done
+abbrev pub ReplicationInert : Type 0
+ReplicationInert = (s : List ℕ) (c b : ℕ) → validity s ≡ pass →
+    (is_replication (at (records s) c) ≡ true → number (step_answer s c b) ≡ 10)
+    × (is_replication (at (records s) b) ≡ true → step_answer s c b ≢ done tt)

@@ -11,9 +11,9 @@ use Rattle.model.specs.declared.Rec.{Rec}
 unfoldable pub size_right : List ℕ → Bool
 size_right s = eqb (length s % 8) 0 && leb (length s) 8192
 
--- 2: "kind over 4"
+-- 2: "kind over 4", and over 5 since document 02, Job 7: "Kind 5 is a copier"
 unfoldable pub kind_right : Rec → Bool
-kind_right r = leb r.kind 4
+kind_right r = leb r.kind 5
 
 -- 2: "a spare byte not zero": "byte 3 zero"
 unfoldable pub spare_right : List ℕ → ℕ → Bool
@@ -42,7 +42,7 @@ unfoldable pub label_by : Bool → Bool → ℕ → Bool
 label_by true ambient l = label_in ambient l
 label_by false ambient l = eqb l 0
 
--- 3: "label wrong for its kind" (a gone record has label 0 after 2)
+-- 3: "label wrong for its kind" (a gone record has label 0 after 2; document 02, Job 7: "a copier, with label 0 and name 0")
 unfoldable pub label_right : Rec → Bool
 label_right r = label_by (nested r) (is_ambient r) r.label
 
@@ -51,7 +51,7 @@ unfoldable pub name_by : Bool → ℕ → Bool
 name_by true n = leb n 63
 name_by false n = eqb n 0
 
--- 4: "name over 63" (a gone record has name 0 after 2)
+-- 4: "name over 63" (a gone record has name 0 after 2; Job 7: "a copier, with label 0 and name 0")
 unfoldable pub name_right : Rec → Bool
 name_right r = name_by (nested r) r.name
 

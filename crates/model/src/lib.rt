@@ -1,13 +1,13 @@
 // The types that the contracts name. What they mean is in specs/.
-#![tactic(auto, unfolding(crate::specs::Numbers::number_of, crate::specs::Numbers::unplaced, crate::specs::Records::is_ambient, crate::specs::Records::nested, crate::specs::Records::capability))]
+#![tactic(auto, unfolding(crate::specs::Numbers::number_of, crate::specs::Numbers::unplaced, crate::specs::Records::is_ambient, crate::specs::Records::nested, crate::specs::Records::is_replication, crate::specs::Records::capability))]
 
 ghost use Rattle.std.specs.Prelude.{◌≡◌, eqb};
 ghost use Rattle.model.specs.Numbers.{number_of, unplaced};
-ghost use Rattle.model.specs.Records.{capability, is_ambient, nested};
+ghost use Rattle.model.specs.Records.{capability, is_ambient, is_replication, nested};
 
 use std::fmt;
 
-// A record of an itinerary: an ambient, a capability, or gone. It is what the bytes say, before any check: a kind is the byte
+// A record of an itinerary: an ambient, a capability, a replication, or gone. It is what the bytes say, before any check: a kind is the byte
 // itself, and any byte may stand there.
 #[derive(Clone, Copy, PartialEq, Eq)]
 pub struct Rec {
@@ -38,6 +38,13 @@ impl Rec {
         ensures { result ≡ nested self }
     {
         (1 <= self.kind) & (self.kind <= 4)
+    }
+
+    // Whether it is a replication.
+    pub fn is_replication(self) -> bool
+        ensures { result ≡ is_replication self }
+    {
+        self.kind == 5
     }
 
     // Which capability it is, if one.
@@ -96,6 +103,8 @@ pub enum Cause {
     Sheet = 14,
     List = 15,
     Set = 16,
+    Replication = 17,
+    Room = 18,
 }
 
 impl Cause {
@@ -112,9 +121,9 @@ impl fmt::Display for Cause {
         f.write_str(match self {
             Cause::Length => "itinerary length no multiple of 8, or over 8,192",
             Cause::Form =>
-                "kind over 4, byte 3 not 0, a client over 999, or a gone record not all 0",
+                "kind over 5, byte 3 not 0, a client over 999, or a gone record not all 0",
             Cause::Label => "label wrong for its kind",
-            Cause::Name => "name over 63",
+            Cause::Name => "name over 63, or not 0 on a copier",
             Cause::Parent => "parent over the record count, or a record of kind 0",
             Cause::Climb => "climbing doesn't reach 0",
             Cause::Policy => "policy not 64 bytes, a byte over 2, or byte 0 not 0",
@@ -128,6 +137,8 @@ impl fmt::Display for Cause {
             Cause::Sheet => "sheet not of the itinerary's length",
             Cause::List => "list buffer shorter than the list",
             Cause::Set => "over 1,024 records together, or a buffer not of the joined length",
+            Cause::Replication => "number 0, over the count, or no active copier",
+            Cause::Room => "fewer gone records than records beneath the copier",
         })
     }
 }

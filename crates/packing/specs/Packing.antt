@@ -2,6 +2,7 @@
 -- the refusal's number and record, and values 0, where it is refused.
 use Rattle.std.specs.Prelude.{ℕ, length, Bool, List}
 use Rattle.packing.specs.declared.climb.HubClimbResult.{HubClimbResult}
+use Rattle.packing.specs.declared.copy.HubCopyResult.{HubCopyResult}
 use Rattle.packing.specs.declared.counts.HubCounts.{HubCounts}
 use Rattle.packing.specs.declared.exposed.HubExposedResult.{HubExposedResult}
 use Rattle.packing.specs.declared.found.HubFound.{HubFound}
@@ -23,9 +24,9 @@ use Rattle.model.specs.declared.Screen.{Screen}
 use Rattle.model.specs.declared.Tally.{Tally}
 use Rattle.model.specs.declared.Verdict.{Verdict}
 
--- the interface's version, major * 65,536 + minor * 256 + patch: 3.1.0
+-- the interface's version, major * 65,536 + minor * 256 + patch: 4.0.0
 unfoldable pub version : ℕ
-version = 196864
+version = 262144
 
 -- "number, record", which each result begins with
 unfoldable pub status : ℕ → ℕ → HubStatus
@@ -66,6 +67,11 @@ climb_result (refused n i) = record { status = status n i; label = 0; boundary =
 unfoldable pub run_result : Answer Counts → HubRunResult
 run_result (done c) = record { status = status 0 0; counts = counts c }
 run_result (refused n i) = record { status = status n i; counts = uncounted }
+
+-- copy: how many records were copied
+unfoldable pub copy_result : Answer ℕ → HubCopyResult
+copy_result (done n) = record { status = status 0 0; copied = n }
+copy_result (refused n i) = record { status = status n i; copied = 0 }
 
 -- moves: how many pairs would answer 0, 10, 11 and 12
 unfoldable pub moves_result : Answer Tally → HubMovesResult

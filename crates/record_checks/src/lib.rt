@@ -5,7 +5,7 @@ ghost use Rattle.std.specs.Prelude.{◌≡◌, ◌*◌, ◌≤◌, IfOk, length}
 ghost use Rattle.model.specs.Numbers.{answer_as, check_as};
 ghost use Rattle.model.specs.Records.{decode};
 ghost use Rattle.model.specs.Refusals.{answer, each_of};
-ghost use Rattle.model.specs.Validity.{client_right, gone_right, label_in, label_right, name_right, parent_right, record_check, spare_right};
+ghost use Rattle.model.specs.Validity.{client_right, gone_right, label_by, label_in, label_right, name_by, name_right, parent_right, record_check, spare_right};
 ghost use Rattle.record_checks.specs.Reading.{form_right, in_order};
 
 use model::{Cause, Rec, Refusal};
@@ -41,7 +41,7 @@ fn gone_right(r: Rec) -> bool
 
 // Whether a label is in the range of ambients, or of capabilities.
 #[tactic(auto, unfolding(model::specs::Validity::label_in))]
-pub fn label_in(ambient: bool, label: u16) -> bool
+fn label_in(ambient: bool, label: u16) -> bool
     ensures { result ≡ label_in ambient label }
 {
     if ambient {
@@ -50,26 +50,42 @@ pub fn label_in(ambient: bool, label: u16) -> bool
     (64 <= label) & (label <= 127)
 }
 
+// Whether the label is right, by whether the kind is nested: 0 where it isn't.
+#[tactic(auto, unfolding(model::specs::Validity::label_by))]
+pub fn label_by(nested: bool, ambient: bool, label: u16) -> bool
+    ensures { result ≡ label_by nested ambient label }
+{
+    if nested {
+        return label_in(ambient, label);
+    }
+    label == 0
+}
+
 // Whether the label is right for the kind.
-#[tactic(auto, unfolding(model::specs::Validity::label_right, model::specs::Validity::label_by))]
+#[tactic(auto, unfolding(model::specs::Validity::label_right))]
 fn label_right(r: Rec) -> bool
     ensures { result ≡ label_right r }
 {
-    if !r.is_nested() {
-        return r.label == 0;
+    label_by(r.is_nested(), r.is_ambient(), r.label as u16)
+}
+
+// Whether the name is right, by whether the kind is nested: 0 where it isn't.
+#[tactic(auto, unfolding(model::specs::Validity::name_by))]
+pub fn name_by(nested: bool, name: u16) -> bool
+    ensures { result ≡ name_by nested name }
+{
+    if nested {
+        return name <= 63;
     }
-    label_in(r.is_ambient(), r.label as u16)
+    name == 0
 }
 
 // Whether the name is right for the kind.
-#[tactic(auto, unfolding(model::specs::Validity::name_right, model::specs::Validity::name_by))]
+#[tactic(auto, unfolding(model::specs::Validity::name_right))]
 fn name_right(r: Rec) -> bool
     ensures { result ≡ name_right r }
 {
-    if r.is_nested() {
-        return r.name <= 63;
-    }
-    r.name == 0
+    name_by(r.is_nested(), r.name as u16)
 }
 
 // Whether p may be a parent.
@@ -89,7 +105,7 @@ fn form_right(it: &[u8], i: u16, r: Rec) -> bool
     requires whole { 8 * i ≤ length it.now }
     ensures { result ≡ form_right it.now i r }
 {
-    (r.kind <= 4) & (spare_right(it, i) & (client_right(r) & gone_right(r)))
+    (r.kind <= 5) & (spare_right(it, i) & (client_right(r) & gone_right(r)))
 }
 
 // Record i, which is whole, or the first refusal of 2 to 5 that it gives.

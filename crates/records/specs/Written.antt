@@ -1,10 +1,10 @@
 -- Bytes that are written record by record.
-use Prim.Native.Nat.{◌%◌, ◌*◌, ◌+◌, ◌-◌, ◌/◌, ◌<◌, ◌≤◌, suc, ℕ}
+use Prim.Native.Nat.{◌%◌, ◌*◌, ◌+◌, ◌-◌, ◌/◌, ◌<◌, ◌≤◌, suc, zero, ℕ}
 use Rattle.std.proofs.Math.ListN.{drop, length, length-append, length-drop, take}
 use Rattle.std.proofs.Common.{drop_of_length-le, take-append-drop, ext_get_or, get_or-take, length-take-le, take_all, take_at, take-suc, ◌∙◌, add-one}
 use Rattle.std.specs.Prelude.{set, ◌≡◌, refl}
 use Rattle.std.proofs.Math.Seq.{drop-append-add, drop-drop, get_or-append-add, get_or-drop}
-use Rattle.std.proofs.lemmas.List.{set-append_right}
+use Rattle.std.proofs.lemmas.List.{set-append_right, set_split}
 use Rattle.std.proofs.lemmas.List.Edits.{sets-eq}
 use mathlib.Core.List.{List, [], ◌++◌, ◌∷◌, append_assoc, append-nil}
 use Rattle.std.proofs.Math.Path.{ap, sym}
@@ -68,6 +68,36 @@ pub encode-append : (a b : List Rec) → encode (a ++ b) ≡ encode a ++ encode 
 unfolding encode
 encode-append [] b = refl
 encode-append (r ∷ a) b = ap (λ l. r.kind ∷ r.label ∷ r.name ∷ 0 ∷ r.parent % 256 ∷ r.parent / 256 ∷ r.client % 256 ∷ r.client / 256 ∷ l) (encode-append a b)
+
+-- parts of records, and one replaced
+pub drop-bytes : (k : ℕ) (its : List Rec) → drop (8 * k) (encode its) ≡ encode (drop k its)
+unfolding encode
+drop-bytes zero its = refl
+drop-bytes (suc k) [] = drop_of_length-le [] (omega arith)
+drop-bytes (suc k) (r ∷ its) =
+    let e : 8 * suc k ≡ suc (suc (suc (suc (suc (suc (suc (suc (8 * k)))))))) = omega arith in
+    ap (λ j. drop j (encode (r ∷ its))) e ∙ drop-bytes k its
+
+take-bytes : (k : ℕ) (its : List Rec) → take (8 * k) (encode its) ≡ encode (take k its)
+unfolding encode
+take-bytes zero its = refl
+take-bytes (suc k) [] = take_all (8 * suc k) [] (omega arith)
+take-bytes (suc k) (r ∷ its) =
+    let e : 8 * suc k ≡ suc (suc (suc (suc (suc (suc (suc (suc (8 * k)))))))) = omega arith in
+    ap (λ j. take j (encode (r ∷ its))) e
+    ∙ ap (λ l. r.kind ∷ r.label ∷ r.name ∷ 0 ∷ r.parent % 256 ∷ r.parent / 256 ∷ r.client % 256 ∷ r.client / 256 ∷ l) (take-bytes k its)
+
+pub record-set : (its : List Rec) (k : ℕ) (v : Rec) → k < length its → with_record (encode its) (k + 1) v ≡ encode (set its k v)
+unfolding with_record
+record-set its k v l =
+    let a : 8 * (k + 1 - 1) ≡ 8 * k = omega arith in
+    let b : k + 1 ≡ suc k = omega arith in
+    ap (λ j. take j (encode its) ++ (encode (v ∷ []) ++ drop (8 * (k + 1)) (encode its))) a
+    ∙ ap (λ x. x ++ (encode (v ∷ []) ++ drop (8 * (k + 1)) (encode its))) (take-bytes k its)
+    ∙ ap (λ j. encode (take k its) ++ (encode (v ∷ []) ++ drop (8 * j) (encode its))) b
+    ∙ ap (λ x. encode (take k its) ++ (encode (v ∷ []) ++ x)) (drop-bytes (suc k) its)
+    ∙ ap (λ x. encode (take k its) ++ x) (sym (encode-append (v ∷ []) (drop (suc k) its)))
+    ∙ sym (encode-append (take k its) (v ∷ drop (suc k) its)) ∙ ap encode (sym (set_split its k v l))
 
 pub written_none : (its : List Rec) (s : List ℕ) → s ≡ written its 0 s
 unfolding written encode

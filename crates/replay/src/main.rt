@@ -81,6 +81,7 @@ fn answer(case: Case, memory: &mut Memory) -> Option<Reply> {
             table.content(),
             joined.content_mut(),
         )),
+        Call::Copy => reply(calls::copy(itinerary.content_mut(), x)),
     })
 }
 
@@ -120,4 +121,5 @@ fn main(rt: HostRuntime) {
     play(&rt, rt.alloc(), b"screen.cases");
     play(&rt, rt.alloc(), b"moves.cases");
     play(&rt, rt.alloc(), b"join.cases");
+    play(&rt, rt.alloc(), b"copy.cases");
 }

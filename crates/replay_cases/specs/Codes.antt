@@ -4,7 +4,7 @@ use Rattle.replay_cases.specs.declared.Call.{Call}
 use Rattle.replay_cases.specs.declared.Call.TheVariants as call
 use Rattle.replay_cases.specs.declared.Fault.{Fault}
 
--- "16 to 28": the byte of each call
+-- "16 to 29": the byte of each call
 unfoldable pub code_of : Call → ℕ
 code_of call.Validate = 16
 code_of call.Climb = 17
@@ -19,8 +19,9 @@ code_of call.Screen = 25
 code_of call.Exposed = 26
 code_of call.Moves = 27
 code_of call.Join = 28
+code_of call.Copy = 29
 
 -- a call by its code, and a fault where it is no call's
 unfoldable pub Reads : ℕ → Result Call Fault → Type 0
 Reads code (Ok c) = code_of c ≡ code
-Reads code (Err e) = (code < 16) ⊎ (28 < code)
+Reads code (Err e) = (code < 16) ⊎ (29 < code)

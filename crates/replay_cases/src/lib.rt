@@ -30,6 +30,7 @@ pub enum Call {
     Exposed,
     Moves,
     Join,
+    Copy,
 }
 
 impl TryFrom<u8> for Call {
@@ -52,6 +53,7 @@ impl TryFrom<u8> for Call {
             26 => Call::Exposed,
             27 => Call::Moves,
             28 => Call::Join,
+            29 => Call::Copy,
             _ => return Err(Fault),
         })
     }

@@ -1,4 +1,4 @@
-// The sequences of document 01: for each call its causes to refuse, in their order. A sequence starts with what every call
+// The sequences of documents 01 and 02: for each call its causes to refuse, in their order. A sequence starts with what every call
 // looks for first, so a cause that comes behind it goes into one place; it answers the itinerary, the policy and the table
 // that passed. (The runs' sequences answer no itinerary: they write it, and that of an answer would lend it. Policy
 // and table are a tuple, since what goes on takes them apart again.)
@@ -6,7 +6,9 @@
 
 ghost use Rattle.std.specs.Prelude.{◌≡◌, IfOk};
 ghost use Rattle.model.specs.Analysis.{permit_all};
-ghost use Rattle.model.specs.Calls.{checking, comparing, entry, joining, making, moving, running, screening, showing};
+ghost use Rattle.copies.specs.Listed.{Listed};
+ghost use Rattle.model.specs.Calls.{checking, comparing, copying, entry, joining, making, moving, running, screening, showing};
+ghost use Rattle.model.specs.Copies.{beneath, gones};
 ghost use Rattle.model.specs.Joins.{four, members_check};
 ghost use Rattle.model.specs.MoveList.{tally_of};
 ghost use Rattle.model.specs.Numbers.{check_as};
@@ -50,6 +52,26 @@ pub fn running(it: &[u8], script: &[u8], answers: &[u8]) -> Result<(), Refusal>
 {
     validity::validity(it)?;
     scripts::script_gate(script, answers.len())
+}
+
+// Refusals 1 to 6, 17, 18; lists the records beneath and the gone ones, by number, and answers how many of each.
+#[tactic(auto, unfolding(model::specs::Calls::copying, model::specs::Copies::copy_fits, model::specs::Numbers::check_as, model::specs::Numbers::number_of, model::specs::Refusals::and_then))]
+pub fn copying(
+    it: &[u8],
+    number: u16,
+    originals: &mut [u16; 1024],
+    places: &mut [u16; 1024],
+) -> Result<(usize, usize), Refusal>
+    ensures checks { check_as result ≡ copying it.now number }
+    ensures originals { IfOk result (λ n. Listed (beneath (records it.now) number) originals.new n.0) }
+    ensures places { IfOk result (λ n. Listed (gones (records it.now)) places.new n.1) }
+{
+    let valid = validity::validity(it)?;
+    copies::replication_gate(&valid, number)?;
+    let n = copies::list_beneath(&valid, number, originals);
+    let m = copies::list_gones(&valid, places);
+    gates::need(n <= m, Cause::Room, 0)?;
+    Ok((n, m))
 }
 
 // Refusals 1 to 6, 7.

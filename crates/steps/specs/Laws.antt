@@ -14,7 +14,7 @@ use Rattle.model.proofs.Laws.Updates.{dissolved-self}
 use Rattle.model.proofs.Laws.Bytes.{at-whole, encode-records, length-records, valid-passed, valid-wf, valid-whole}
 use Rattle.model.proofs.Laws.Done.{Done, cap-pos, done-other, in-live, open-beside, out-live, outcome-done, partner-pos}
 use Rattle.model.proofs.Laws.WellFormed.{WellFormed, dissolve-parent-stays, parent-not-self, place-parent-other}
-use Rattle.records.specs.Written.{encode-append, pass-next, pass-read, pass-whole, with_record, written}
+use Rattle.records.specs.Written.{drop-bytes, encode-append, pass-next, pass-read, pass-whole, with_record, written}
 use Rattle.steps.specs.Passes.{UntouchedTo, passed_to}
 use Rattle.model.specs.Records.{at, byte, capability, count, decode, encode, gone, is_ambient, parent_of, records, update, update_from}
 use Rattle.model.specs.Refusals.{pass}
@@ -165,14 +165,6 @@ untouched m i r a o x y =
         ∙ ap (λ p. to (past m.actor m.home p) r) (past-other b m.home r.parent u) ∙ ap (λ p. to p r) still
 
 -- a pass ends where no record changes any more
-drop-bytes : (k : ℕ) (its : List Rec) → drop (8 * k) (encode its) ≡ encode (drop k its)
-unfolding encode
-drop-bytes zero its = refl
-drop-bytes (suc k) [] = drop_of_length-le [] (omega arith)
-drop-bytes (suc k) (r ∷ its) =
-    let e : 8 * suc k ≡ suc (suc (suc (suc (suc (suc (suc (suc (8 * k)))))))) = omega arith in
-    ap (λ j. drop j (encode (r ∷ its))) e ∙ drop-bytes k its
-
 module _ (f : ℕ → Rec → Rec) where
   settled : (n k : ℕ) (its : List Rec) → ((i : ℕ) → k ≤ i → i < length its → f (n + i) (get_or its i gone) ≡ get_or its i gone) → drop k (update_from f n its) ≡ drop k its
   unfolding update_from

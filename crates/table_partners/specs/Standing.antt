@@ -82,18 +82,22 @@ module _ (s : List ℕ) (v : validity s ≡ pass) (i : ℕ) (l : i + 1 ≤ count
   pub contained : (c : ℕ) → c ≡ view nesting (records s) r.parent → c ≡ container (records s) (i + 1)
   contained c p = p ∙ ap (λ (x : Rec). view nesting (records s) x.parent) read_at
 
-  -- c is the record's container
-  pub record Stands (c : ℕ) : Type 0 where
+  -- c is the record's container: with the record's label it has a place in I, whatever the record is
+  pub record Within (c : ℕ) : Type 0 where
     pub label : r.label < 128
     pub above : c < 64
+
+  pub within : (c : ℕ) → c ≡ view nesting (records s) r.parent → Within c
+  within c p = record { label = rw read_at (labels wf (i + 1)); above = rw (contained c p) (container-small wf (i + 1)) }
+
+  -- and the record is one that a table speaks of
+  pub record Stands (c : ℕ) : Type 0 where
     pub test : standing (records s) i ≡ true
     pub cell : 128 * c + r.label ≡ nesting_cell (records s) i
 
   pub stands : (c : ℕ) → c ≡ view nesting (records s) r.parent → nested r ≡ true → Stands c
   unfolding standing nesting_cell place_i
   stands c p n = record {
-    label = rw read_at (labels wf (i + 1));
-    above = rw (contained c p) (container-small wf (i + 1));
     test = ap nested (sym read_at) ∙ n;
     cell = ap₂ (λ (x : ℕ) (y : Rec). 128 * x + y.label) (contained c p) read_at;
   }

@@ -7,10 +7,10 @@ use Rattle.model.specs.declared.Capability.TheVariants.{In as cap-in, Open as ca
 use Rattle.model.specs.Records.{capability}
 use Rattle.model.specs.Scripts.{kind_of}
 use Rattle.text_form.specs.declared.Kind.{Kind}
-use Rattle.text_form.specs.declared.Kind.TheVariants.{Acts, Ambient}
+use Rattle.text_form.specs.declared.Kind.TheVariants.{Acts, Ambient, Replication}
 use Rattle.text_form.specs.declared.Line.{Line}
 
--- "ambient", "in", "out", "open", each with the space after it
+-- "ambient", "in", "out", "open", and document 02's "copier", each with the space after it
 unfoldable pub ambient_word : List ℕ
 ambient_word = 97 ∷ 109 ∷ 98 ∷ 105 ∷ 101 ∷ 110 ∷ 116 ∷ 32 ∷ []
 
@@ -23,6 +23,9 @@ out_word = 111 ∷ 117 ∷ 116 ∷ 32 ∷ []
 unfoldable pub open_word : List ℕ
 open_word = 111 ∷ 112 ∷ 101 ∷ 110 ∷ 32 ∷ []
 
+unfoldable pub replication_word : List ℕ
+replication_word = 99 ∷ 111 ∷ 112 ∷ 105 ∷ 101 ∷ 114 ∷ 32 ∷ []
+
 -- " hidden", at the end of the line of a record that the sheet hides
 unfoldable pub hidden_word : List ℕ
 hidden_word = 32 ∷ 104 ∷ 105 ∷ 100 ∷ 100 ∷ 101 ∷ 110 ∷ []
@@ -33,6 +36,7 @@ kind_word Ambient = ambient_word
 kind_word (Acts cap-in) = in_word
 kind_word (Acts cap-out) = out_word
 kind_word (Acts cap-open) = open_word
+kind_word Replication = replication_word
 
 -- the word in a line, none where the record has no kind
 unfoldable pub line_word : Option Kind → List ℕ
@@ -43,21 +47,29 @@ line_word (Some k) = kind_word k
 unfoldable pub ambient_kind : Kind → Bool
 ambient_kind Ambient = true
 ambient_kind (Acts k) = false
+ambient_kind Replication = false
 
--- a kind's number in a record: "1 ambient, 2 in, 3 out, 4 open"
+-- a kind is an ambient or a capability
+unfoldable pub nested_kind : Kind → Bool
+nested_kind Ambient = true
+nested_kind (Acts k) = true
+nested_kind Replication = false
+
+-- a kind's number in a record: "1 ambient, 2 in, 3 out, 4 open"; document 02, Job 7: "Kind 5 is a copier"
 unfoldable pub kind_byte : Option Kind → ℕ
 kind_byte None = 0
 kind_byte (Some Ambient) = 1
 kind_byte (Some (Acts k)) = kind_of k
+kind_byte (Some Replication) = 5
 
 -- the kind of a capability's record
 unfoldable pub acting : Option Capability → Option Kind
 acting None = None
 acting (Some k) = Some (Acts k)
 
--- the kind that a record's number stands for; 0 and what is over 4 stand for none
+-- the kind that a record's number stands for; 0 and what is over 5 stand for none
 unfoldable pub kind_at : ℕ → Option Kind
-kind_at n = elim (eqb n 1) [ true ↦ Some Ambient | false ↦ acting (capability n) ]
+kind_at n = elim (eqb n 1) [ true ↦ Some Ambient | false ↦ elim (eqb n 5) [ true ↦ Some Replication | false ↦ acting (capability n) ] ]
 
 -- document 02, Job 4: a client's number after the name, with the space before it; nothing stands for 0
 unfoldable pub client_bytes : ℕ → List ℕ

@@ -3,16 +3,16 @@ use Rattle.std.specs.Prelude.{◌*◌, ◌+◌, ◌-◌, ◌/◌, ◌%◌, min, 
 use Rattle.std.specs.Prelude.{Option, None, Some, Result, Ok, Err}
 use Rattle.model.specs.Records.{byte, encode}
 use Rattle.model.specs.declared.Capability.TheVariants.{In as cap-in, Open as cap-open, Out as cap-out}
-use Rattle.model.specs.Validity.{label_in}
+use Rattle.model.specs.Validity.{label_by, name_by}
 use Rattle.model.specs.declared.Rec.{Rec}
 use Rattle.text_put.specs.Puts.{over}
-use Rattle.text_form.specs.Lines.{ambient_kind, kind_byte, kind_word}
+use Rattle.text_form.specs.Lines.{ambient_kind, kind_byte, kind_word, nested_kind}
 use Rattle.text_form.specs.declared.Cause.{Cause}
 use Rattle.text_form.specs.declared.Cause.TheVariants as cause
 use Rattle.text_form.specs.declared.Decimal.{Decimal}
 use Rattle.text_form.specs.declared.Fault.{Fault}
 use Rattle.text_form.specs.declared.Kind.{Kind}
-use Rattle.text_form.specs.declared.Kind.TheVariants.{Acts, Ambient}
+use Rattle.text_form.specs.declared.Kind.TheVariants.{Acts, Ambient, Replication}
 use Rattle.text_form.specs.declared.Line.{Line}
 use Rattle.text_form.specs.declared.LineRead.{LineRead}
 
@@ -123,13 +123,13 @@ served d k label name s =
 unfoldable pub named : ℕ → Kind → ℕ → List ℕ → Result LineRead Cause
 named d k label s =
     demand (eqb (byte s 0) 32) (cause_at cause.NoName s)
-    (with_number (number_read cause.NoName (drop 1 s)) (λ n. demand (leb n.value 63) cause.WrongName
+    (with_number (number_read cause.NoName (drop 1 s)) (λ n. demand (name_by (nested_kind k) n.value) cause.WrongName
     (served d k label n.value (drop n.width (drop 1 s)))))
 
 -- the label, after the depth and kind
 unfoldable pub labelled : ℕ → Kind → List ℕ → Result LineRead Cause
 labelled d k s =
-    with_number (number_read cause.NoLabel s) (λ n. demand (label_in (ambient_kind k) n.value) cause.WrongLabel
+    with_number (number_read cause.NoLabel s) (λ n. demand (label_by (nested_kind k) (ambient_kind k) n.value) cause.WrongLabel
     (named d k n.value (drop n.width s)))
 
 -- no kind's word: what is wrong is told where the visible bytes end
@@ -143,7 +143,7 @@ worded_by (k ∷ ks) d s = elim (starts (kind_word k) s) [ true ↦ labelled d k
 
 -- all kinds
 unfoldable pub kinds : List Kind
-kinds = Ambient ∷ Acts cap-in ∷ Acts cap-out ∷ Acts cap-open ∷ []
+kinds = Ambient ∷ Acts cap-in ∷ Acts cap-out ∷ Acts cap-open ∷ Replication ∷ []
 
 -- the kind, after the depth
 unfoldable pub worded : ℕ → List ℕ → Result LineRead Cause

@@ -3,17 +3,18 @@
 #![tactic(auto)]
 
 ghost use Rattle.std.specs.Prelude.{◌≡◌};
-ghost use Rattle.text_form.specs.Lines.{ambient_kind, kind_at, kind_byte, kind_word, line_word};
+ghost use Rattle.text_form.specs.Lines.{ambient_kind, kind_at, kind_byte, kind_word, line_word, nested_kind};
 ghost use Rattle.text_form.specs.declared.WriteError.TheVariants.{Refused};
 
 use model::{Capability, Rec, Refusal};
 use std::fmt;
 
-// What stands on a line: an ambient, or a capability.
+// What stands on a line: an ambient, a capability, or a replication.
 #[derive(Clone, Copy)]
 pub enum Kind {
     Ambient,
     Acts(Capability),
+    Replication,
 }
 
 impl Kind {
@@ -25,12 +26,21 @@ impl Kind {
         match self {
             Kind::Ambient => true,
             Kind::Acts(_) => false,
+            Kind::Replication => false,
         }
+    }
+
+    // Whether it is an ambient or a capability.
+    #[tactic(auto, unfolding(crate::specs::Lines::nested_kind))]
+    pub fn is_nested(self) -> bool
+        ensures { result ≡ nested_kind self }
+    {
+        matches!(self, Kind::Ambient | Kind::Acts(_))
     }
 }
 
-// A line of the text form: how far it is indented, and the record's kind, label, name and client. A record that is neither an
-// ambient nor a capability has no kind: none such is read, and a valid itinerary shows none.
+// A line of the text form: how far it is indented, and the record's kind, label, name and client. A record that is gone
+// or of no kind has none here: none such is read, and a valid itinerary shows none.
 #[derive(Clone, Copy)]
 pub struct Line {
     pub depth: usize,
@@ -41,7 +51,7 @@ pub struct Line {
 }
 
 // The word of a kind, with the space after it.
-#[tactic(auto, unfolding(crate::specs::Lines::kind_word, crate::specs::Lines::ambient_word, crate::specs::Lines::in_word, crate::specs::Lines::out_word, crate::specs::Lines::open_word))]
+#[tactic(auto, unfolding(crate::specs::Lines::kind_word, crate::specs::Lines::ambient_word, crate::specs::Lines::in_word, crate::specs::Lines::out_word, crate::specs::Lines::open_word, crate::specs::Lines::replication_word))]
 pub fn kind_word(kind: Kind) -> &'static [u8]
     ensures { result.now ≡ kind_word kind }
 {
@@ -50,6 +60,7 @@ pub fn kind_word(kind: Kind) -> &'static [u8]
         Kind::Acts(Capability::In) => b"in ",
         Kind::Acts(Capability::Out) => b"out ",
         Kind::Acts(Capability::Open) => b"open ",
+        Kind::Replication => b"copier ",
     }
 }
 
@@ -75,16 +86,20 @@ pub fn kind_byte(kind: Option<Kind>) -> u8
         Some(Kind::Acts(Capability::In)) => 2,
         Some(Kind::Acts(Capability::Out)) => 3,
         Some(Kind::Acts(Capability::Open)) => 4,
+        Some(Kind::Replication) => 5,
     }
 }
 
 // The kind of a record.
-#[tactic(auto, unfolding(crate::specs::Lines::acting, crate::specs::Lines::kind_at, model::specs::Records::is_ambient))]
+#[tactic(auto, unfolding(crate::specs::Lines::acting, crate::specs::Lines::kind_at, model::specs::Records::is_ambient, model::specs::Records::is_replication))]
 pub fn kind_of_record(r: Rec) -> Option<Kind>
     ensures { result ≡ kind_at r.kind }
 {
     if r.is_ambient() {
         return Some(Kind::Ambient);
+    }
+    if r.is_replication() {
+        return Some(Kind::Replication);
     }
     r.capability().map(Kind::Acts)
 }
@@ -113,15 +128,15 @@ pub enum Cause {
     OddIndent,
     // Indented by more than one step below the line before.
     TooDeep,
-    // The first word is none of ambient, in, out, open with a space after it.
+    // The first word is none of ambient, in, out, open, copier with a space after it.
     UnknownKind,
     // No number stands where the label should.
     NoLabel,
-    // The label is wrong for its kind: 1 to 63 on an ambient, 64 to 127 on a capability.
+    // The label is wrong for its kind: 1 to 63 on an ambient, 64 to 127 on a capability, 0 on a replication.
     WrongLabel,
     // No space and number stand after the label.
     NoName,
-    // The name is over 63.
+    // The name is over 63, or not 0 on a replication.
     WrongName,
     // Something stands after the name, or after the client where there is one.
     AfterName,
@@ -153,12 +168,12 @@ impl fmt::Display for Cause {
             Cause::TooMany => "more than 1024 records",
             Cause::OddIndent => "indented by an odd number of spaces",
             Cause::TooDeep => "indented by more than two spaces below the line before",
-            Cause::UnknownKind => "no word ambient, in, out or open with a space after it",
+            Cause::UnknownKind => "no word ambient, in, out, open or copier with a space after it",
             Cause::NoLabel => "no number for a label",
             Cause::WrongLabel =>
-                "label wrong for its kind: 1 to 63 on an ambient, 64 to 127 on in, out and open",
+                "label wrong for its kind: 1 to 63 on an ambient, 64 to 127 on in, out and open, 0 on a copier",
             Cause::NoName => "no space and number for a name after the label",
-            Cause::WrongName => "name over 63",
+            Cause::WrongName => "name over 63, or not 0 on a copier",
             Cause::AfterName => "something after the name or the client",
             Cause::NoEnd => "no end of line after the name or the client",
             Cause::FirstIndented => "the first line is indented",

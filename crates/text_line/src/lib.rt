@@ -68,7 +68,7 @@ fn named(depth: usize, kind: Kind, label: u8, s: &[u8]) -> Result<LineRead, Caus
     }
     let rest = &s[1..];
     let name = text_numeral::number(Cause::NoName, rest)?;
-    if 63 < name.value {
+    if !record_checks::name_by(kind.is_nested(), name.value) {
         return Err(Cause::WrongName);
     }
     served(depth, kind, label, name.value as u8, &rest[name.width..])
@@ -80,7 +80,7 @@ fn labelled(depth: usize, kind: Kind, s: &[u8]) -> Result<LineRead, Cause>
     ensures { result ≡ labelled depth kind s.now }
 {
     let label = text_numeral::number(Cause::NoLabel, s)?;
-    if !record_checks::label_in(kind.is_ambient(), label.value) {
+    if !record_checks::label_by(kind.is_nested(), kind.is_ambient(), label.value) {
         return Err(Cause::WrongLabel);
     }
     named(depth, kind, label.value as u8, &s[label.width..])
@@ -104,6 +104,7 @@ fn worded(depth: usize, s: &[u8]) -> Result<LineRead, Cause>
         Kind::Acts(Capability::In),
         Kind::Acts(Capability::Out),
         Kind::Acts(Capability::Open),
+        Kind::Replication,
     ];
     for kind in kinds {
         if let Some(rest) = s.strip_prefix(text_form::kind_word(kind)) {

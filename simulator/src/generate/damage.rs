@@ -2,7 +2,9 @@
 
 use super::clients;
 use crate::random::Random;
-use crate::record::{MOST_RECORDS, RECORD_LENGTH};
+use crate::record::{Kind, MOST_RECORDS, RECORD_LENGTH};
+
+const COPIER: u8 = Kind::Copier as u8;
 
 /// Damages the bytes so that refusal `cause` has a reason; says whether it could.
 pub fn damage(random: &mut Random, bytes: &mut Vec<u8>, cause: u8) -> bool {
@@ -47,7 +49,7 @@ fn spoil_form(random: &mut Random, bytes: &mut [u8]) -> bool {
     }
     let at = random.below(count) * RECORD_LENGTH;
     match random.below(4) {
-        0 => bytes[at] = random.pick(&[5, 6, 7, 8, 128, 255]),
+        0 => bytes[at] = random.pick(&[6, 7, 8, 9, 128, 255]),
         1 => bytes[at + 3] = random.pick(&[1, 2, 128, 255]),
         // Of a gone record any client is too much.
         _ => put_client(bytes, at, random.pick(&clients::REFUSED)),
@@ -75,6 +77,7 @@ fn spoil_label(random: &mut Random, bytes: &mut [u8]) -> bool {
     let Some(at) = random.choose(&places(bytes, false)) else { return false };
     bytes[at + 1] = match bytes[at] {
         1 => random.pick(&[0, 64, 65, 127, 128, 255]),
+        COPIER => random.pick(&[1, 2, 63, 64, 65, 127, 128, 255]),
         _ => random.pick(&[0, 1, 62, 63, 128, 129, 255]),
     };
     true
@@ -82,7 +85,10 @@ fn spoil_label(random: &mut Random, bytes: &mut [u8]) -> bool {
 
 fn spoil_name(random: &mut Random, bytes: &mut [u8]) -> bool {
     let Some(at) = random.choose(&places(bytes, false)) else { return false };
-    bytes[at + 2] = random.pick(&[64, 65, 127, 128, 255]);
+    bytes[at + 2] = match bytes[at] {
+        COPIER => random.pick(&[1, 2, 63, 64, 128, 255]),
+        _ => random.pick(&[64, 65, 127, 128, 255]),
+    };
     true
 }
 

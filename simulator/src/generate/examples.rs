@@ -81,12 +81,82 @@ pub fn shared() -> Itinerary {
 
 pub const SHARED_STEPS: [(u16, u16); 3] = [(3, 1), (4, 6), (7, 2)];
 
+/// A copier, record 4, in a boundary; beneath it a packet, a high ambient, and a copier with an out. Their parents have
+/// higher numbers and lower ones, and there are gone records between them, just enough for a copy. All have clients but
+/// the last, and one of 1 to 3 bytes' sizes each.
+pub fn wash() -> Itinerary {
+    let client = |client: u16, record: Record| Record { client, ..record };
+    let copier = |parent: u16| record(Kind::Copier, 0, 0, parent);
+    Itinerary {
+        records: vec![
+            Record::GONE,
+            client(999, record(Kind::Ambient, 3, 2, 4)),
+            Record::GONE,
+            client(17, copier(8)),
+            client(256, record(Kind::In, 64, 1, 2)),
+            client(1, copier(4)),
+            Record::GONE,
+            client(998, record(Kind::Ambient, 1, 0, 0)),
+            client(257, record(Kind::Out, 65, 0, 6)),
+            client(512, record(Kind::Ambient, 2, 1, 4)),
+            Record::GONE,
+            Record::GONE,
+            record(Kind::Ambient, 4, 3, 0),
+        ],
+    }
+}
+
+/// The wash's first copier.
+pub const WASH: u16 = 4;
+
+/// Copiers, ambients and capabilities one beneath the other, beside them a copier in the environment, and one behind an
+/// open, which is done by `RECURRING_STEPS`.
+pub fn recurring() -> Itinerary {
+    Itinerary {
+        records: vec![
+            record(Kind::Ambient, 1, 0, 0),
+            record(Kind::Copier, 0, 0, 1),
+            record(Kind::Open, 64, 1, 2),
+            record(Kind::Copier, 0, 0, 3),
+            record(Kind::Ambient, 2, 1, 4),
+            record(Kind::Copier, 0, 0, 5),
+            record(Kind::Out, 65, 0, 6),
+            record(Kind::Ambient, 3, 2, 7),
+            record(Kind::Copier, 0, 0, 0),
+            record(Kind::Ambient, 4, 3, 9),
+            record(Kind::Ambient, 5, 4, 0),
+            record(Kind::Open, 66, 4, 0),
+            record(Kind::Copier, 0, 0, 12),
+            record(Kind::In, 67, 3, 13),
+        ],
+    }
+}
+
+pub const RECURRING_STEPS: [(u16, u16); 1] = [(12, 11)];
+
+/// Copiers with one record beneath each, in every place in which one is or isn't active, and a gone record.
+pub fn copiers() -> Itinerary {
+    let mut records = vec![
+        record(Kind::Ambient, 1, 0, 0),
+        record(Kind::In, 64, 0, 1),
+        record(Kind::Out, 65, 0, 1),
+        record(Kind::Open, 66, 0, 1),
+        record(Kind::Ambient, 2, 1, 2),
+        record(Kind::Copier, 0, 0, 0),
+        Record::GONE,
+    ];
+    for parent in 0..=6 {
+        records.push(record(Kind::Copier, 0, 0, parent));
+        records.push(record(Kind::Ambient, 3, 2, records.len() as u16));
+    }
+    Itinerary { records }
+}
+
 /// Runs of records of one kind in the environment, all with one name.
 pub fn runs(runs: &[(Kind, usize)]) -> Itinerary {
     let one = |kind| match kind {
         Kind::Gone => Record::GONE,
-        Kind::Ambient => record(kind, 1, 0, 0),
-        _ => record(kind, 64, 0, 0),
+        _ => record(kind, *kind.labels().start(), 0, 0),
     };
     let records = runs.iter().flat_map(|&(kind, count)| vec![one(kind); count]).collect();
     Itinerary { records }

@@ -16,7 +16,7 @@ impl Relabel {
         Relabel { labels: std::array::from_fn(|k| k as u8), names: std::array::from_fn(|k| k as u8) }
     }
 
-    /// Any order of ambient labels, capability labels and names; 0 stays 0.
+    /// Any order of ambient labels, capability labels and names; label 0 stays 0.
     pub fn any(random: &mut Random) -> Relabel {
         let mut relabel = Relabel::none();
         random.shuffle(&mut relabel.labels[1..64]);
@@ -39,9 +39,11 @@ impl Relabel {
 
     pub fn itinerary(&self, itinerary: &Itinerary) -> Itinerary {
         let mut changed = itinerary.clone();
-        for record in changed.records.iter_mut().filter(|record| record.kind != Kind::Gone) {
+        for record in &mut changed.records {
             record.label = self.labels[record.label as usize];
-            record.name = self.names[record.name as usize];
+            if !matches!(record.kind, Kind::Gone | Kind::Copier) {
+                record.name = self.names[record.name as usize];
+            }
         }
         changed
     }

@@ -1,5 +1,6 @@
 //! Steps and scripts: many that are done, and partners unfit for each cause.
 
+use crate::copies;
 use crate::law::Law;
 use crate::random::Random;
 use crate::record::{Itinerary, Kind};
@@ -32,15 +33,26 @@ pub fn done_step(random: &mut Random, itinerary: &Itinerary) -> Option<(u16, u16
     None
 }
 
-/// Any two numbers, most of them of records.
-pub fn any_step(random: &mut Random, itinerary: &Itinerary) -> (u16, u16) {
-    let mut number = || match random.below(40) {
+/// Any number, most of the time a record's.
+pub fn any_number(random: &mut Random, itinerary: &Itinerary) -> u16 {
+    match random.below(40) {
         0 => 65535,
         1 => 1025,
         2 => 256,
         _ => random.below(itinerary.count() + 2) as u16,
-    };
-    (number(), number())
+    }
+}
+
+pub fn any_step(random: &mut Random, itinerary: &Itinerary) -> (u16, u16) {
+    (any_number(random, itinerary), any_number(random, itinerary))
+}
+
+/// A copier whose copy would be done.
+pub fn done_copy(random: &mut Random, itinerary: &Itinerary) -> Option<u16> {
+    let room = copies::gone(itinerary).len();
+    let mut copiers = copies::active_copiers(itinerary);
+    copiers.retain(|&copier| copies::beneath(itinerary, copier).len() <= room);
+    random.choose(&copiers)
 }
 
 /// Partners for one actor, one for each cause to be unfit, and fit ones.
@@ -52,8 +64,9 @@ pub fn partners(random: &mut Random, itinerary: &Itinerary, actor: u16) -> Vec<u
     let mover_parent = itinerary.get(c.parent).map_or(0, |mover| mover.parent);
     chosen.push(mover_parent);
     let near = |parent: u16| parent == c.parent || parent == mover_parent;
-    let causes: [&dyn Fn(Kind, bool, bool) -> bool; 5] = [
+    let causes: [&dyn Fn(Kind, bool, bool) -> bool; 6] = [
         &|kind, _, _| kind == Kind::Gone,
+        &|kind, _, _| kind == Kind::Copier,
         &|kind, _, _| kind.is_capability(),
         &|kind, named, near| kind == Kind::Ambient && named && !near,
         &|kind, named, near| kind == Kind::Ambient && !named && near,

@@ -22,6 +22,8 @@ pub struct Mix {
     pub names: usize,
     /// Share of records with a client other than 0.
     pub clients: usize,
+    /// Share of records that are copiers; what comes later stands beneath them as beneath ambients.
+    pub copiers: usize,
 }
 
 impl Mix {
@@ -38,6 +40,7 @@ impl Mix {
             orders: random.between(1, 5),
             names: random.between(1, 4),
             clients: random.pick(&[0, 50, 90, 100]),
+            copiers: random.pick(&[0, 0, 10, 20]),
         }
     }
 
@@ -51,6 +54,7 @@ impl Mix {
             behind: random.pick(&[0, 15]),
             suited: 95,
             names: random.between(1, 3),
+            copiers: random.pick(&[0, 0, 6, 12]),
             ..Mix::small(random)
         }
     }
@@ -77,6 +81,18 @@ impl Mix {
             orders: random.pick(&[3, 8, 64]),
             names: random.pick(&[2, 5, 64]),
             clients: random.pick(&[0, 50, 90, 100]),
+            copiers: random.pick(&[0, 2, 5]),
+        }
+    }
+
+    /// Copiers with room for copies, as much as is drawn.
+    pub fn copying(random: &mut Random) -> Mix {
+        Mix {
+            records: random.between(4, 20),
+            gone: random.pick(&[20, 40, 55, 70]),
+            copiers: random.pick(&[15, 30, 45]),
+            behind: random.pick(&[10, 40]),
+            ..Mix::small(random)
         }
     }
 
@@ -148,7 +164,7 @@ fn draw_parent(random: &mut Random, mix: &Mix, earlier: &[Record]) -> u16 {
         let recent = random.chance(40);
         let first = if recent { earlier.len().saturating_sub(4) } else { 0 };
         let place = random.between(first, earlier.len() - 1);
-        if earlier[place].kind == Kind::Ambient || random.chance(mix.behind) {
+        if !earlier[place].kind.is_capability() || random.chance(mix.behind) {
             return place as u16 + 1;
         }
     }
@@ -156,6 +172,9 @@ fn draw_parent(random: &mut Random, mix: &Mix, earlier: &[Record]) -> u16 {
 }
 
 fn draw_record(random: &mut Random, mix: &Mix, parent: u16) -> Record {
+    if mix.copiers > 0 && random.chance(mix.copiers) {
+        return Record { kind: Kind::Copier, label: 0, name: 0, parent, client: 0 };
+    }
     let name = random.below(mix.names) as u8;
     if !random.chance(mix.capabilities) {
         let label = random.between(1, mix.labels) as u8;
@@ -163,6 +182,39 @@ fn draw_record(random: &mut Random, mix: &Mix, parent: u16) -> Record {
     }
     let kind = random.pick(&[Kind::In, Kind::Out, Kind::Open]);
     Record { kind, label: 64 + random.below(mix.orders) as u8, name, parent, client: 0 }
+}
+
+/// The same tree with the number that `new` gives for each.
+fn renumbered(itinerary: &Itinerary, new: impl Fn(u16) -> u16) -> Itinerary {
+    let mut records = vec![Record::GONE; itinerary.count()];
+    for (number, record) in itinerary.numbers().zip(&itinerary.records) {
+        let parent = if record.parent == 0 { 0 } else { new(record.parent) };
+        records[usize::from(new(number)) - 1] = Record { parent, ..*record };
+    }
+    Itinerary { records }
+}
+
+/// The same tree with its numbers in the other order.
+pub fn turned_round(itinerary: &Itinerary) -> Itinerary {
+    renumbered(itinerary, |number| itinerary.count() as u16 + 1 - number)
+}
+
+/// The same tree with its numbers in any order.
+pub fn shuffled(random: &mut Random, itinerary: &Itinerary) -> Itinerary {
+    let mut numbers: Vec<u16> = itinerary.numbers().collect();
+    random.shuffle(&mut numbers);
+    renumbered(itinerary, |number| numbers[usize::from(number) - 1])
+}
+
+/// All of these records beneath a copier, whose number is one more than theirs, and then gone ones.
+pub fn beneath_a_copier(below: &Itinerary, gone: usize) -> Itinerary {
+    let (count, mut records) = (below.count(), below.records.clone());
+    for record in records.iter_mut().filter(|record| record.kind != Kind::Gone && record.parent == 0) {
+        record.parent = count as u16 + 1;
+    }
+    records.push(Record { kind: Kind::Copier, ..Record::GONE });
+    records.resize(count + 1 + gone, Record::GONE);
+    Itinerary { records }
 }
 
 /// Which records a chain is made of.

@@ -1,77 +1,21 @@
 //! Cases of clients, for every call that reads an itinerary: good ones, those that are refused with 2, and what is
 //! looked at before and behind them.
 
+use super::bench::Bench;
 use super::stream::{Buffer, Call};
 use super::writer::Writer;
 use super::Size;
 use crate::generate::clients;
 use crate::generate::damage::spoil_client;
 use crate::generate::examples::{shared, SHARED_STEPS};
-use crate::generate::policies;
-use crate::generate::scripts::{done_step, script};
-use crate::generate::trees::{tree, Mix};
-use crate::law::Law;
+use crate::generate::trees::Mix;
 use crate::random::Random;
-use crate::record::{Itinerary, LAST_CLIENT, MOST_RECORDS, RECORD_LENGTH};
-use crate::steps;
-use crate::table::{least, Policy};
-
-/// A bench on which each of the calls can be done; the itinerary is lent anew before each call.
-struct Bench {
-    itinerary: Itinerary,
-    policy: Policy,
-    script: Vec<u8>,
-    step: (u16, u16),
-    calls: Vec<Call>,
-}
-
-impl Bench {
-    fn shared(calls: &[Call]) -> Bench {
-        let script = steps::script(&SHARED_STEPS);
-        let (policy, calls) = (policies::usual(), calls.to_vec());
-        Bench { itinerary: shared(), policy, script, step: SHARED_STEPS[0], calls }
-    }
-
-    fn drawn(random: &mut Random, calls: &[Call], mix: &Mix) -> Bench {
-        let itinerary = tree(random, mix);
-        let policy = policies::telling(random, &itinerary);
-        let count = random.pick(&[1, 3, 6]);
-        let script = script(random, &itinerary, count, 80);
-        let step = done_step(random, &itinerary).unwrap_or((1, 1));
-        Bench { itinerary, policy, script, step, calls: calls.to_vec() }
-    }
-
-    /// All but the itinerary, as the calls need it.
-    fn put(&self, writer: &mut Writer) {
-        writer.put(Buffer::Policy, &self.policy);
-        writer.put(Buffer::Table, &least(Law::Document, &[&self.itinerary], &self.policy).bytes);
-        writer.put(Buffer::Script, &self.script);
-        writer.put(Buffer::Answers, &vec![0xee; self.script.len() / 4]);
-        writer.put(Buffer::Sheet, &vec![7; self.itinerary.count() * RECORD_LENGTH]);
-        if self.calls.contains(&Call::Moves) {
-            let pairs = steps::moves(Law::Document, &self.itinerary).0.len();
-            writer.put(Buffer::List, &vec![7; 4 * pairs + 3]);
-        }
-    }
-
-    /// Makes each call on these bytes.
-    fn ask(&self, writer: &mut Writer, bytes: &[u8]) {
-        for &call in &self.calls {
-            writer.put(Buffer::Itinerary, bytes);
-            let (x, y) = match call {
-                Call::Climb => (self.itinerary.count() as u16, 0),
-                Call::Step => self.step,
-                _ => (0, 0),
-            };
-            writer.call(call, x, y);
-        }
-    }
-}
+use crate::record::{Kind, LAST_CLIENT, MOST_RECORDS, RECORD_LENGTH};
 
 /// The calls of a file that read an itinerary.
 pub fn write(writer: &mut Writer, random: &mut Random, size: Size, calls: &[Call]) {
     let calls: Vec<Call> = calls.iter().copied().filter(|&call| call != Call::Row).collect();
-    let shared = Bench::shared(&calls);
+    let shared = Bench::of(shared(), &SHARED_STEPS, &calls);
     shared.put(writer);
     if calls.contains(&Call::Step) {
         kept(writer);
@@ -98,17 +42,8 @@ fn kept(writer: &mut Writer) {
     }
 }
 
-fn with_client(itinerary: &Itinerary, number: usize, client: u16) -> Vec<u8> {
-    with_bytes(itinerary, number, &[(6, client.to_le_bytes()[0]), (7, client.to_le_bytes()[1])])
-}
-
-/// That record with some bytes changed.
-fn with_bytes(itinerary: &Itinerary, number: usize, changes: &[(usize, u8)]) -> Vec<u8> {
-    let mut bytes = itinerary.bytes();
-    for &(place, byte) in changes {
-        bytes[(number - 1) * RECORD_LENGTH + place] = byte;
-    }
-    bytes
+fn with_client(bench: &Bench, number: usize, client: u16) -> Vec<u8> {
+    bench.with_bytes(number, &[(6, client.to_le_bytes()[0]), (7, client.to_le_bytes()[1])])
 }
 
 /// Every good client that stands near a bound, and every refused one, on a record of each kind.
@@ -117,21 +52,21 @@ fn by_hand(writer: &mut Writer, bench: &Bench) {
     let numbers = [2, 3, 4, 7];
     let clients = [0].iter().chain(&clients::GOOD).chain(&clients::REFUSED);
     for (place, &client) in clients.enumerate() {
-        bench.ask(writer, &with_client(&bench.itinerary, numbers[place % numbers.len()], client));
+        bench.ask(writer, &with_client(bench, numbers[place % numbers.len()], client));
     }
     for number in [1, bench.itinerary.count()] {
         for client in [LAST_CLIENT, LAST_CLIENT + 1] {
-            bench.ask(writer, &with_client(&bench.itinerary, number, client));
+            bench.ask(writer, &with_client(bench, number, client));
         }
     }
 }
 
 /// A gone record with a client, good by itself or not.
 fn refused_on_gone(writer: &mut Writer, bench: &Bench) {
-    let is_gone = |number: &u16| bench.itinerary.get(*number).is_some_and(|record| record.label == 0);
+    let is_gone = |number: &u16| bench.itinerary.is(Kind::Gone, *number);
     for number in bench.itinerary.numbers().filter(is_gone) {
         for client in [1, 17, 255, 256, LAST_CLIENT, LAST_CLIENT + 1, u16::MAX] {
-            bench.ask(writer, &with_client(&bench.itinerary, number.into(), client));
+            bench.ask(writer, &with_client(bench, number.into(), client));
         }
     }
 }
@@ -141,20 +76,20 @@ fn in_order(writer: &mut Writer, bench: &Bench) {
     let client = [(6, 0xe8), (7, 3)];
     let others: [&[(usize, u8)]; 5] = [&[(1, 0)], &[(1, 64)], &[(2, 64)], &[(4, 5)], &[(5, 9)]];
     for other in others {
-        bench.ask(writer, &with_bytes(&bench.itinerary, 6, &[&client, other].concat()));
+        bench.ask(writer, &bench.with_bytes(6, &[&client, other].concat()));
         for (first, second) in [(&client[..], other), (other, &client[..])] {
-            let mut bytes = with_bytes(&bench.itinerary, 6, first);
-            let behind = with_bytes(&bench.itinerary, 8, second);
+            let mut bytes = bench.with_bytes(6, first);
+            let behind = bench.with_bytes(8, second);
             bytes[7 * RECORD_LENGTH..].copy_from_slice(&behind[7 * RECORD_LENGTH..]);
             bench.ask(writer, &bytes);
         }
     }
     // A ring of two comes behind 2.
-    let ring = with_bytes(&bench.itinerary, 1, &[(4, 2)]);
+    let ring = bench.with_bytes(1, &[(4, 2)]);
     bench.ask(writer, &ring);
     bench.ask(writer, &[&ring[..9 * RECORD_LENGTH], &[1, 6, 5, 0, 2, 0, 0xe8, 3]].concat());
     for spare in [1, 3, 128] {
-        bench.ask(writer, &with_bytes(&bench.itinerary, 2, &[(3, spare)]));
+        bench.ask(writer, &bench.with_bytes(2, &[(3, spare)]));
     }
 }
 
@@ -181,6 +116,6 @@ fn full(writer: &mut Writer, random: &mut Random, calls: &[Call], mix: &Mix, fro
     bench.ask(writer, &bytes);
     let mut numbers = (from..=MOST_RECORDS).chain((1..from).rev());
     if let Some(number) = numbers.find(|number| bytes[(number - 1) * RECORD_LENGTH] != 0) {
-        bench.ask(writer, &with_client(&bench.itinerary, number, LAST_CLIENT + 1));
+        bench.ask(writer, &with_client(&bench, number, LAST_CLIENT + 1));
     }
 }

@@ -6,10 +6,10 @@ use super::stream::{Buffer, Call};
 use super::writer::Writer;
 use super::Size;
 use crate::generate::damage::damage;
-use crate::generate::examples::{between, nested};
+use crate::generate::examples::{between, copiers, nested, recurring};
 use crate::generate::policies;
 use crate::generate::relabel::Relabel;
-use crate::generate::trees::{chain, tree, Links, Mix};
+use crate::generate::trees::{chain, tree, turned_round, Links, Mix};
 use crate::random::Random;
 use crate::record::{Itinerary, Kind, Record, MOST_RECORDS};
 use crate::table::{Policy, POLICY_LENGTH};
@@ -45,10 +45,10 @@ fn from_all(writer: &mut Writer) {
 }
 
 /// Boundaries right above, farther up, several, none, and the record itself; with
-/// capabilities between, high and low labels, and a gone record.
+/// capabilities and copiers between, high and low labels, and a gone record.
 fn by_hand(writer: &mut Writer) {
     let upward: Vec<u8> = (1..64).collect();
-    let cases: [(Itinerary, Policy); 15] = [
+    let cases: [(Itinerary, Policy); 19] = [
         (nested(&[1, 2]), policies::usual()),
         (nested(&[2, 1]), policies::usual()),
         (nested(&[1, 3, 4, 5]), policies::usual()),
@@ -64,25 +64,19 @@ fn by_hand(writer: &mut Writer) {
         (nested(&upward), policies::of(&[], &upward)),
         (between(), policies::usual()),
         (between(), policies::of(&[1], &[2, 3])),
+        (recurring(), policies::usual()),
+        (recurring(), policies::of(&[1], &[2, 3])),
+        (copiers(), policies::usual()),
+        (copiers(), policies::of(&[], &[2, 3])),
     ];
     for (itinerary, policy) in cases {
         put(writer, &itinerary, &policy);
         from_all(writer);
-        let mut reversed = itinerary;
-        turn_round(&mut reversed);
+        let mut reversed = turned_round(&itinerary);
         reversed.records.insert(0, Record::GONE);
         reversed.records.iter_mut().filter(|record| record.parent != 0).for_each(|record| record.parent += 1);
         put(writer, &reversed, &policy);
         from_all(writer);
-    }
-}
-
-/// The same tree with its numbers in the other order.
-fn turn_round(itinerary: &mut Itinerary) {
-    let over = itinerary.count() as u16 + 1;
-    itinerary.records.reverse();
-    for record in itinerary.records.iter_mut().filter(|record| record.parent != 0) {
-        record.parent = over - record.parent;
     }
 }
 

@@ -1,8 +1,8 @@
 //! How often each call got each answer, and which answers must turn up.
 
-use super::join_words;
 use super::moves_cases::LONGEST;
 use super::stream::{Buffer, Buffers, Call};
+use super::{copier_words, copy_words, join_words};
 use crate::answer::Answer;
 use crate::law::Law;
 use crate::record::{Itinerary, Kind, LAST_CLIENT, MOST_RECORDS};
@@ -18,17 +18,30 @@ pub struct Counts {
 
 impl Counts {
     /// Notes an answer, and what can be told apart among answers of number 0.
-    pub fn note(&mut self, call: Call, x: u16, answer: &Answer, before: &Buffers, after: &Buffers) {
+    pub fn note(
+        &mut self,
+        call: Call,
+        (x, y): (u16, u16),
+        answer: &Answer,
+        before: &Buffers,
+        after: &Buffers,
+    ) {
         self.add(call, format!("{:2}", answer.number));
         if call != Call::Row {
-            self.add_clients(call, x, answer, looked_at(call, before, after));
+            let itinerary = looked_at(call, before, after);
+            self.add_clients(call, x, answer, itinerary);
+            let words = copier_words::met(call, (x, y), answer, itinerary, before);
+            words.into_iter().for_each(|word| self.add(call, word));
         }
         if call == Call::Moves {
             self.add_room(answer.number, after);
         }
-        if call == Call::Join {
-            join_words::met(before, answer).into_iter().for_each(|word| self.add(call, word));
-        }
+        let words = match call {
+            Call::Join => join_words::met(before, answer),
+            Call::Copy => copy_words::met(x, before, answer),
+            _ => Vec::new(),
+        };
+        words.into_iter().for_each(|word| self.add(call, word));
         if answer.number != 0 {
             return;
         }
@@ -221,15 +234,15 @@ fn refused_clients(record: &[u8]) -> Vec<&'static str> {
         let alone = record[..6].iter().all(|&byte| byte == 0);
         return if alone { vec!["gone with a client"] } else { Vec::new() };
     }
-    if record[0] > 4 || record[3] != 0 {
+    if record[0] > Kind::LAST || record[3] != 0 {
         return Vec::new();
     }
-    let labels = if record[0] == 1 { 1..=63 } else { 64..=127 };
+    let kind = Kind::ALL[usize::from(record[0])];
     let met = [
         ("client over 999", true),
         ("client 1000", client == 1000),
         ("client by its high byte alone", client % 256 == 0),
-        ("client before 3 or 4", !labels.contains(&record[1]) || record[2] > 63),
+        ("client before 3 or 4", !kind.labels().contains(&record[1]) || !kind.names().contains(&record[2])),
     ];
     met.into_iter().filter(|&(_, so)| so).map(|(word, _)| word).collect()
 }
@@ -332,10 +345,12 @@ fn reachable(call: Call) -> Vec<String> {
         Call::Screen => &[7, 13],
         Call::Moves => &[15],
         Call::Join => &[7, 8, 9, 16],
+        Call::Copy => &[17, 18],
     };
     let mut all: Vec<String> =
         (0..=6).chain(numbers.iter().copied()).map(|number: u8| format!("{number:2}")).collect();
     all.extend(CLIENTS.map(|(number, word)| format!("{number:2} {word}")));
+    all.extend(copier_words::wanted(call));
     if call == Call::Step {
         all.extend(MOVED.map(|word| format!(" 0 {word}")));
     }
@@ -347,6 +362,9 @@ fn reachable(call: Call) -> Vec<String> {
     }
     if call == Call::Join {
         all.extend(join_words::wanted());
+    }
+    if call == Call::Copy {
+        all.extend(copy_words::wanted());
     }
     if call == Call::Exposed {
         let words = ["yes, by row 0", "yes, rows away", "no, hinted", "no, sealed", "no, behind a boundary"];

@@ -2,6 +2,7 @@
 
 use super::client_cases;
 use super::climb_cases;
+use super::copier_cases;
 use super::stream::{Buffer, Call};
 use super::writer::Writer;
 use super::Size;
@@ -45,6 +46,7 @@ pub fn write(writer: &mut Writer, random: &mut Random, size: Size) {
     full(writer, random, size);
     climb_cases::write(writer, random, size);
     client_cases::write(writer, random, size, &CALLS);
+    copier_cases::write(writer, random, size, &CALLS);
 }
 
 fn itinerary_now(writer: &Writer) -> Itinerary {
@@ -326,6 +328,7 @@ fn long_scripts(writer: &mut Writer, random: &mut Random) {
             names: 3,
             top: 5,
             clients: 70,
+            copiers: 2,
         };
         let itinerary = tree(random, &mix);
         writer.put(Buffer::Itinerary, &itinerary.bytes());

@@ -27,6 +27,7 @@ pub fn write(writer: &mut Writer, random: &mut Random, size: Size) {
         refused_member(writer, random, round);
     }
     clients(writer, random);
+    copiers(writer, random);
     edges(writer, random);
     rooms(writer, random);
     too_many(writer, random);
@@ -163,11 +164,11 @@ fn spoil(writer: &mut Writer, random: &mut Random, policy: bool, table: bool, la
         }
     }
     match (table, random.chance(50)) {
-        (true, true) => {
+        (true, true) if !lacks => {
             let length = bad_length(random);
             writer.put(Buffer::Table, &vec![0; length]);
         }
-        (true, false) => writer.flip(forbidden_bit(random)),
+        (true, _) => writer.flip(forbidden_bit(random)),
         _ => {}
     }
 }
@@ -190,6 +191,24 @@ fn clients(writer: &mut Writer, random: &mut Random) {
         for change in changes {
             let mut members = set.each_ref().map(Itinerary::bytes);
             change.iter().for_each(|&(at, byte)| members[place][at] = byte);
+            put_members(writer, &members);
+            ask(writer, random);
+        }
+    }
+}
+
+/// Copiers in each member, good and refused.
+fn copiers(writer: &mut Writer, random: &mut Random) {
+    let set = [examples::recurring(), examples::copiers(), examples::wash(), examples::recurring()];
+    put(writer, &set, &policies::usual());
+    ask(writer, random);
+    // The first copier of each member is record 2, 6, 4 and 2.
+    let changes: [&[(usize, u8)]; 6] =
+        [&[(0, 6)], &[(1, 1)], &[(1, 64), (2, 1)], &[(2, 1)], &[(0, 4)], &[(4, 99)]];
+    for (place, number) in [2, 6, 4, 2].into_iter().enumerate() {
+        for change in changes {
+            let mut members = set.each_ref().map(Itinerary::bytes);
+            change.iter().for_each(|&(at, byte)| members[place][8 * number - 8 + at] = byte);
             put_members(writer, &members);
             ask(writer, random);
         }
@@ -282,7 +301,7 @@ fn in_order(writer: &mut Writer, random: &mut Random, round: usize) {
     let [member, set, policy, table, lacks] = [1, 2, 4, 8, 16].map(|bit| round & bit != 0);
     spoil(writer, random, policy, table, lacks);
     if member {
-        let (place, cause) = (random.below(4), random.between(2, 6));
+        let (place, cause) = (random.below(4), if round % 8 == 7 { 6 } else { random.between(2, 6) });
         damage(random, &mut members[place], cause as u8);
     }
     let many = set && round & 32 != 0;

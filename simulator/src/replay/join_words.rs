@@ -62,7 +62,7 @@ impl Lent<'_> {
     }
 
     fn bad_policy(&self) -> bool {
-        calls::climb(&[], self.policy, 0).is_err()
+        calls::climb(Law::Document, &[], self.policy, 0).is_err()
     }
 
     fn bad_table(&self) -> bool {

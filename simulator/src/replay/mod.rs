@@ -1,7 +1,12 @@
 //! Replay files: seeded calls with the answers and buffers expected of them.
 
+pub mod bench;
 pub mod client_cases;
 pub mod climb_cases;
+pub mod copier_cases;
+pub mod copier_words;
+pub mod copy_cases;
+pub mod copy_words;
 pub mod counts;
 pub mod exposed_cases;
 pub mod itinerary_cases;
@@ -22,12 +27,13 @@ use writer::Writer;
 /// A set of cases: its name on the command line, what writes it, and its calls.
 pub type Section = (&'static str, fn(&mut Writer, &mut Random, Size), &'static [Call]);
 
-pub const SECTIONS: [Section; 5] = [
+pub const SECTIONS: [Section; 6] = [
     ("itinerary", itinerary_cases::write, &itinerary_cases::CALLS),
     ("table", table_cases::write, &table_cases::CALLS),
     ("screen", screen_cases::write, &screen_cases::CALLS),
     ("moves", moves_cases::write, &moves_cases::CALLS),
     ("join", join_cases::write, &join_cases::CALLS),
+    ("copy", copy_cases::write, &copy_cases::CALLS),
 ];
 
 /// How much is written: everything, or a sample of a few dozen kilobytes.

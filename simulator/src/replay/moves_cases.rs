@@ -1,10 +1,10 @@
 //! Cases of the list of moves: which pairs stand on it, how many answer what, how long
 //! the buffer is, and what stays behind the list.
 
-use super::client_cases;
 use super::stream::{Buffer, Call};
 use super::writer::Writer;
 use super::Size;
+use super::{client_cases, copier_cases};
 use crate::generate::damage::damage;
 use crate::generate::examples::{self, far_down, in_a_mover, runs};
 use crate::generate::relabel::Relabel;
@@ -47,6 +47,7 @@ pub fn write(writer: &mut Writer, random: &mut Random, size: Size) {
         longest(writer);
     }
     client_cases::write(writer, random, size, &CALLS);
+    copier_cases::write(writer, random, size, &CALLS);
 }
 
 /// The pairs that the list has to have, none where the itinerary is refused.
@@ -94,6 +95,10 @@ fn by_hand(writer: &mut Writer, random: &mut Random) {
         in_a_mover(Kind::In, 3, 2),
         in_a_mover(Kind::Out, 3, 2),
         in_a_mover(Kind::Open, 3, 2),
+        examples::wash(),
+        examples::recurring(),
+        examples::copiers(),
+        runs(&[(Kind::Copier, 2), (Kind::Open, 1), (Kind::Ambient, 1)]),
     ]);
     for itinerary in itineraries {
         put(writer, &itinerary);
@@ -158,6 +163,7 @@ fn full(writer: &mut Writer, random: &mut Random) {
     for itinerary in [
         whole(Kind::Gone),
         whole(Kind::Ambient),
+        whole(Kind::Copier),
         whole(Kind::Out),
         whole(Kind::Open),
         chain(MOST_RECORDS, Links::Capabilities, true),

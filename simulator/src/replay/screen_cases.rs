@@ -1,10 +1,10 @@
 //! Cases of the screen, which does what the program does with its files.
 
-use super::client_cases;
 use super::itinerary_cases::refused_script;
 use super::stream::{Buffer, Call};
 use super::writer::Writer;
 use super::Size;
+use super::{client_cases, copier_cases};
 use crate::generate::damage::damage;
 use crate::generate::examples;
 use crate::generate::policies;
@@ -44,6 +44,7 @@ pub fn write(writer: &mut Writer, random: &mut Random, size: Size) {
         good(writer, random, &itinerary, &policy, if round < 3 { MOST_RECORDS } else { 40 });
     }
     client_cases::write(writer, random, size, &CALLS);
+    copier_cases::write(writer, random, size, &CALLS);
 }
 
 fn example_b(writer: &mut Writer) {

@@ -71,10 +71,11 @@ pub enum Call {
     Exposed,
     Moves,
     Join,
+    Copy,
 }
 
 impl Call {
-    pub const ALL: [Call; 13] = [
+    pub const ALL: [Call; 14] = [
         Call::Validate,
         Call::Climb,
         Call::Sheet,
@@ -88,6 +89,7 @@ impl Call {
         Call::Exposed,
         Call::Moves,
         Call::Join,
+        Call::Copy,
     ];
 
     pub fn of_code(code: u8) -> Option<Call> {
@@ -117,7 +119,7 @@ pub fn perform(law: Law, call: Call, x: u16, y: u16, buffers: &mut Buffers) -> A
         &mut buffers.contents;
     let outcome = match call {
         Call::Validate => calls::validate(itinerary),
-        Call::Climb => calls::climb(itinerary, policy, x),
+        Call::Climb => calls::climb(law, itinerary, policy, x),
         Call::Sheet => calls::sheet(itinerary, table, sheet),
         Call::Step => calls::step(law, itinerary, x, y),
         Call::Run => calls::run(law, itinerary, script, answers),
@@ -129,6 +131,7 @@ pub fn perform(law: Law, call: Call, x: u16, y: u16, buffers: &mut Buffers) -> A
         Call::Exposed => calls::exposed(law, itinerary, policy, table),
         Call::Moves => calls::moves(law, itinerary, list),
         Call::Join => calls::join(law, [itinerary, second, third, fourth], policy, table, joined),
+        Call::Copy => calls::copy(law, itinerary, x),
     };
     outcome.into()
 }

@@ -1,6 +1,7 @@
 //! Cases of check, maker, verdict and row, and behind them those of exposed and of clients.
 
 use super::client_cases;
+use super::copier_cases;
 use super::exposed_cases;
 use super::stream::{Buffer, Call};
 use super::writer::Writer;
@@ -43,6 +44,7 @@ pub fn write(writer: &mut Writer, random: &mut Random, size: Size) {
     large(writer, random, size);
     exposed_cases::write(writer, random, size);
     client_cases::write(writer, random, size, &CALLS);
+    copier_cases::write(writer, random, size, &CALLS);
 }
 
 fn rows(writer: &mut Writer, random: &mut Random) {

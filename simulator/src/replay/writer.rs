@@ -195,7 +195,7 @@ impl Writer {
         for &value in &answer.values[..used] {
             put_number(&mut self.out, value as usize);
         }
-        self.counts.note(call, x, &answer, &self.now, &after);
+        self.counts.note(call, (x, y), &answer, &self.now, &after);
         self.now = after;
         answer
     }

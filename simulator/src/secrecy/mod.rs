@@ -1,12 +1,17 @@
 //! The secrecy statement, checked by running on pairs of itineraries.
 //!
 //! Supposed: x and y of equal length, one table accepted for both under one
-//! policy, the verdict sealed, equal sheets. Then, after every list of steps,
-//! refused ones included:
+//! policy, the verdict sealed, equal sheets. Then, after every list of steps and
+//! copies, refused ones included:
 //! 1. each suspect ambient has a boundary ambient above it, in x and in y;
+//!
+//! and as long as no copy was in the list:
 //! 2. the sheets are equal;
 //! 3. each step whose actor stood on the sheet just before it got equal answers.
+//!
+//! A copy ends 2 and 3, since there may be gone records enough in x and not in y.
 
+pub mod copying;
 pub mod files;
 pub mod pairs;
 pub mod search;
@@ -14,10 +19,33 @@ pub mod sets;
 pub mod shrink;
 pub mod text;
 
+use crate::copies;
 use crate::law::Law;
 use crate::record::{Itinerary, Kind};
 use crate::steps;
 use crate::table::{hidden, holds, least, sheet, verdict, Policy, Table, Verdict, BOUNDARY};
+
+/// What may stand in the list.
+#[derive(Clone, Copy, Debug, PartialEq, Eq)]
+pub enum Event {
+    /// Actor and partner.
+    Step(u16, u16),
+    /// The copier.
+    Copy(u16),
+}
+
+impl Event {
+    pub fn is_copy(self) -> bool {
+        matches!(self, Event::Copy(_))
+    }
+
+    /// The actor of a step, or the copier.
+    pub fn number(self) -> u16 {
+        match self {
+            Event::Step(number, _) | Event::Copy(number) => number,
+        }
+    }
+}
 
 #[derive(Clone, Debug, PartialEq, Eq)]
 pub struct Case {
@@ -25,7 +53,7 @@ pub struct Case {
     pub y: Itinerary,
     pub policy: Policy,
     pub table: Table,
-    pub steps: Vec<(u16, u16)>,
+    pub events: Vec<Event>,
 }
 
 impl Case {
@@ -48,13 +76,13 @@ impl Case {
             && sheet(&self.x, &self.table) == sheet(&self.y, &self.table)
     }
 
-    /// Parts 1 and 2, about the two itineraries as they stand now.
-    fn false_now(&self, x: &Itinerary, y: &Itinerary) -> Vec<u8> {
+    /// Parts 1 and 2, about the two itineraries as they stand now, after a copy or before all copies.
+    fn false_now(&self, x: &Itinerary, y: &Itinerary, copied: bool) -> Vec<u8> {
         let mut parts = Vec::new();
         if !self.guarded(x) || !self.guarded(y) {
             parts.push(1);
         }
-        if sheet(x, &self.table) != sheet(y, &self.table) {
+        if !copied && sheet(x, &self.table) != sheet(y, &self.table) {
             parts.push(2);
         }
         parts
@@ -78,15 +106,17 @@ impl Case {
     /// none if the statement is true of the case.
     pub fn false_parts(&self, law: Law) -> Vec<u8> {
         let (mut x, mut y) = (self.x.clone(), self.y.clone());
-        let mut parts = self.false_now(&x, &y);
-        for &(actor, partner) in &self.steps {
+        let mut copied = false;
+        let mut parts = self.false_now(&x, &y, copied);
+        for &event in &self.events {
             if !parts.is_empty() {
                 break;
             }
-            let shown = on_sheet(&x, &self.table, actor);
-            let answers = (answer(law, &mut x, actor, partner), answer(law, &mut y, actor, partner));
-            parts = self.false_now(&x, &y);
-            if shown && answers.0 != answers.1 {
+            let shown = on_sheet(&x, &self.table, event.number());
+            let answers = (answer(law, &mut x, event), answer(law, &mut y, event));
+            copied |= event.is_copy();
+            parts = self.false_now(&x, &y, copied);
+            if !copied && shown && answers.0 != answers.1 {
                 parts.push(3);
             }
         }
@@ -94,9 +124,12 @@ impl Case {
     }
 }
 
-/// Does the step and gives its answer.
-pub fn answer(law: Law, itinerary: &mut Itinerary, actor: u16, partner: u16) -> u8 {
-    steps::step(law, itinerary, actor, partner).err().unwrap_or(0)
+/// Does the step or the copy and gives its answer.
+pub fn answer(law: Law, itinerary: &mut Itinerary, event: Event) -> u8 {
+    match event {
+        Event::Step(actor, partner) => steps::step(law, itinerary, actor, partner).err().unwrap_or(0),
+        Event::Copy(copier) => copies::copy(law, itinerary, copier).err().unwrap_or(0),
+    }
 }
 
 /// Whether the record stands on the sheet.

@@ -1,8 +1,8 @@
 //! Pairs of itineraries that an observer cannot tell apart at the start.
 
-use super::{answer, on_sheet, Case};
+use super::{answer, on_sheet, Case, Event};
 use crate::generate::clients;
-use crate::generate::scripts::{any_step, capabilities, done_step, partners};
+use crate::generate::scripts::{any_number, any_step, capabilities, done_copy, done_step, partners};
 use crate::generate::tables::any_bit;
 use crate::generate::trees::{tree, Mix};
 use crate::law::Law;
@@ -23,6 +23,7 @@ pub(super) fn draw_mix(random: &mut Random) -> Mix {
         orders: random.between(1, 5),
         names: random.between(1, 4),
         clients: 0,
+        copiers: 0,
     }
 }
 
@@ -36,18 +37,23 @@ pub(super) fn draw_policy(random: &mut Random) -> Policy {
     policy
 }
 
-/// A case that may be supposed, without clients, or none if the draw did not work out.
+/// A case that may be supposed, without clients and copiers, or none if the draw did not work out.
 pub fn draw(random: &mut Random, law: Law) -> Option<Case> {
     let mix = draw_mix(random);
+    drawn(random, law, &mix)
+}
+
+/// The same with that mix.
+pub(super) fn drawn(random: &mut Random, law: Law, mix: &Mix) -> Option<Case> {
     let policy = draw_policy(random);
-    let mut x = tree(random, &mix);
+    let mut x = tree(random, mix);
     guard(random, &mut x);
     let hiding = least(law, &[&x], &policy);
-    let y = change_hidden(random, &mix, &x, &hiding)?;
+    let y = change_hidden(random, mix, &x, &hiding)?;
     complete(random, law, x, y, policy)
 }
 
-/// The case with a table for both and steps, if it is as supposed and something can happen in it.
+/// The case with a table for both and a list, if it is as supposed and something can happen in it.
 pub(super) fn complete(
     random: &mut Random,
     law: Law,
@@ -63,13 +69,15 @@ pub(super) fn complete(
         start.set(any_bit(random));
     }
     let table = close(law, &[&x, &y], &policy, &start);
-    let mut case = Case { x, y, policy, table, steps: Vec::new() };
+    let mut case = Case { x, y, policy, table, events: Vec::new() };
     // Cases in which nothing can happen are dear and tell little.
-    let quiet = done_step(random, &case.x).is_none() && done_step(random, &case.y).is_none();
+    let mut quiet =
+        |itinerary| done_step(random, itinerary).is_none() && done_copy(random, itinerary).is_none();
+    let quiet = quiet(&case.x) && quiet(&case.y);
     if (quiet && random.chance(90)) || !case.supposed(law) {
         return None;
     }
-    case.steps = draw_steps(random, law, &case);
+    case.events = draw_events(random, law, &case);
     Some(case)
 }
 
@@ -91,10 +99,13 @@ pub fn give_clients(random: &mut Random, case: &mut Case) {
 /// Puts boundaries outside and high ambients inside, else few cases are sealed.
 pub(super) fn guard(random: &mut Random, x: &mut Itinerary) {
     let high = random.pick(&[10, 35]);
-    for record in x.records.iter_mut().filter(|record| record.kind == Kind::Ambient) {
-        if record.parent == 0 && random.chance(85) {
+    let below_copiers = |number: u16| x.upward(number).all(|above| x.is(Kind::Copier, above));
+    let outermost: Vec<bool> = x.numbers().map(below_copiers).collect();
+    let ambients = x.records.iter_mut().zip(outermost).filter(|(record, _)| record.kind == Kind::Ambient);
+    for (record, outermost) in ambients {
+        if outermost && random.chance(85) {
             record.label = 1;
-        } else if record.parent != 0 && random.chance(high) {
+        } else if !outermost && random.chance(high) {
             record.label = 2;
         }
     }
@@ -124,7 +135,9 @@ fn change_record(random: &mut Random, mix: &Mix, y: &mut Itinerary, table: &Tabl
     let record = y.records[number as usize - 1];
     let changed = match random.below(4) {
         0 => Record::GONE,
-        1 if record.kind != Kind::Gone => Record { name: random.below(mix.names) as u8, ..record },
+        1 if !matches!(record.kind, Kind::Gone | Kind::Copier) => {
+            Record { name: random.below(mix.names) as u8, ..record }
+        }
         2 if record.kind.is_capability() => {
             Record { kind: random.pick(&[Kind::In, Kind::Out, Kind::Open]), ..record }
         }
@@ -155,6 +168,9 @@ fn draw_hidden(random: &mut Random, mix: &Mix, y: &Itinerary, table: &Table, num
             None => Record::GONE,
         };
     }
+    if mix.copiers > 0 && random.chance(mix.copiers) {
+        return Record { kind: Kind::Copier, label: 0, name: 0, parent, client: 0 };
+    }
     match random.chance(mix.capabilities) {
         true => {
             let kind = random.pick(&[Kind::In, Kind::Out, Kind::Open]);
@@ -167,23 +183,41 @@ fn draw_hidden(random: &mut Random, mix: &Mix, y: &Itinerary, table: &Table, num
     }
 }
 
-/// Steps drawn while both itineraries go through them.
-fn draw_steps(random: &mut Random, law: Law, case: &Case) -> Vec<(u16, u16)> {
+/// Steps, and copies if there are copiers, drawn while both itineraries go through them.
+fn draw_events(random: &mut Random, law: Law, case: &Case) -> Vec<Event> {
     let (mut x, mut y) = (case.x.clone(), case.y.clone());
-    let mut steps = Vec::new();
+    let copier = |itinerary: &Itinerary| itinerary.records.iter().any(|record| record.kind == Kind::Copier);
+    let copying = (copier(&x) || copier(&y)) && random.chance(70);
+    let mut events = Vec::new();
     for _ in 0..random.between(1, 8) {
-        let chosen = match random.below(8) {
-            0..=2 => done_step(random, &x),
-            3..=5 => done_step(random, &y),
-            6 => unfit_step(random, &x),
-            _ => None,
-        };
-        let (actor, partner) = chosen.unwrap_or_else(|| any_step(random, &x));
-        answer(law, &mut x, actor, partner);
-        answer(law, &mut y, actor, partner);
-        steps.push((actor, partner));
+        let copy = if copying && random.chance(40) { draw_copy(random, &x, &y) } else { None };
+        let event = copy.unwrap_or_else(|| draw_step(random, &x, &y));
+        answer(law, &mut x, event);
+        answer(law, &mut y, event);
+        events.push(event);
     }
-    steps
+    events
+}
+
+fn draw_step(random: &mut Random, x: &Itinerary, y: &Itinerary) -> Event {
+    let chosen = match random.below(8) {
+        0..=2 => done_step(random, x),
+        3..=5 => done_step(random, y),
+        6 => unfit_step(random, x),
+        _ => None,
+    };
+    let (actor, partner) = chosen.unwrap_or_else(|| any_step(random, x));
+    Event::Step(actor, partner)
+}
+
+/// One that is done in x or in y, or any.
+fn draw_copy(random: &mut Random, x: &Itinerary, y: &Itinerary) -> Option<Event> {
+    let copier = match random.below(8) {
+        0..=3 => done_copy(random, x),
+        4..=6 => done_copy(random, y),
+        _ => Some(any_number(random, x)),
+    };
+    copier.map(Event::Copy)
 }
 
 /// A capability with a partner of some cause or other.

@@ -1,9 +1,10 @@
 //! The search for counterexamples, under the document's law or a changed one.
 
-use super::{answer, on_sheet, pairs, shrink, Case};
+use super::{answer, on_sheet, pairs, shrink, Case, Event};
 use crate::law::Law;
 use crate::random::Random;
-use crate::record::{Kind, Record};
+use crate::record::{Itinerary, Kind, Record};
+use crate::table::sheet;
 
 /// What a search went through; a search that did nothing would prove nothing.
 #[derive(Clone, Copy, Debug, Default)]
@@ -17,13 +18,18 @@ pub struct Tally {
     /// Steps done by an actor on the sheet, and by one off it in x or y.
     pub shown_done: usize,
     pub hidden_done: usize,
+    /// Copies done in x or y, and those by which suspect ambients came to be.
+    pub copies: usize,
+    pub suspects_copied: usize,
+    /// Supposed cases with copies at whose end the sheets differ, which the statement allows.
+    pub apart: usize,
     pub false_cases: usize,
 }
 
 impl Tally {
     pub fn line(&self) -> String {
         format!(
-            "{} drawn, {} as supposed, {} of them different, {} by clients, {} steps, {} done by shown and {} by hidden actors, {} false",
+            "{} drawn, {} as supposed, {} of them different, {} by clients, {} steps, {} done by shown and {} by hidden actors, {} copies, {} of suspects, {} sheets apart behind them, {} false",
             self.drawn,
             self.supposed,
             self.different,
@@ -31,6 +37,9 @@ impl Tally {
             self.steps,
             self.shown_done,
             self.hidden_done,
+            self.copies,
+            self.suspects_copied,
+            self.apart,
             self.false_cases
         )
     }
@@ -42,19 +51,30 @@ impl Tally {
             |(x, y): (&Record, &Record)| x.kind != Kind::Gone && y.kind != Kind::Gone && x.client != y.client;
         self.by_clients += usize::from(case.x.records.iter().zip(&case.y.records).any(differ));
         let (mut x, mut y) = (case.x.clone(), case.y.clone());
-        for &(actor, partner) in &case.steps {
-            let shown = on_sheet(&x, &case.table, actor);
-            let answers = [answer(law, &mut x, actor, partner), answer(law, &mut y, actor, partner)];
-            self.steps += 1;
-            if answers.contains(&0) {
-                if shown {
-                    self.shown_done += 1
-                } else {
-                    self.hidden_done += 1
+        for &event in &case.events {
+            let shown = on_sheet(&x, &case.table, event.number());
+            let before = [suspects(case, &x), suspects(case, &y)];
+            let done = [answer(law, &mut x, event), answer(law, &mut y, event)].contains(&0);
+            match event {
+                Event::Step(..) => {
+                    self.steps += 1;
+                    self.shown_done += usize::from(done && shown);
+                    self.hidden_done += usize::from(done && !shown);
+                }
+                Event::Copy(_) => {
+                    self.copies += usize::from(done);
+                    self.suspects_copied += usize::from(before != [suspects(case, &x), suspects(case, &y)]);
                 }
             }
         }
+        self.apart += usize::from(sheet(&x, &case.table) != sheet(&y, &case.table));
     }
+}
+
+/// How many suspect ambients there are.
+fn suspects(case: &Case, itinerary: &Itinerary) -> usize {
+    let suspect = |record: &&Record| record.kind == Kind::Ambient && case.table.suspect(record.label);
+    itinerary.records.iter().filter(suspect).count()
 }
 
 /// What draws a case that may be supposed.

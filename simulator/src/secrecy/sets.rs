@@ -1,6 +1,7 @@
 //! Pairs of joined benches that an observer cannot tell apart at the start. Both come from the call itself, which has
 //! to take each set under the one policy and table.
 
+use super::copying::with_copiers;
 use super::pairs::{change_hidden, complete, draw_mix, draw_policy, guard};
 use super::Case;
 use crate::calls;
@@ -14,7 +15,10 @@ use crate::table::{least, Policy, Table};
 /// A case that may be supposed, of two joined sets, or none if the draw did not work out. The second set has the hidden
 /// part of each member changed, and now and then the same records in other members.
 pub fn draw(random: &mut Random, law: Law) -> Option<Case> {
-    let (mix, policy) = (draw_mix(random), draw_policy(random));
+    let (mut mix, policy) = (draw_mix(random), draw_policy(random));
+    if random.chance(50) {
+        mix = with_copiers(random, mix);
+    }
     let x: Set = std::array::from_fn(|_| draw_member(random, &mix));
     let hiding = least(law, &[&join(&x)], &policy);
     let changed = x.iter().map(|member| change_hidden(random, &mix, member, &hiding));

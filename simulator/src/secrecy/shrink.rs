@@ -1,6 +1,6 @@
 //! Makes a counterexample smaller while it stays one.
 
-use super::Case;
+use super::{Case, Event};
 use crate::law::Law;
 use crate::record::{Itinerary, Kind, Record};
 
@@ -13,7 +13,7 @@ pub fn size(case: &Case) -> [usize; 5] {
     let standing = records().filter(|record| record.kind != Kind::Gone).count();
     let fields = records().map(|r| [r.kind as u16, r.label.into(), r.name.into(), r.parent, r.client]);
     let classes = case.policy.iter().filter(|&&class| class != 0).count();
-    [case.x.count(), case.steps.len(), standing, classes, fields.map(total).sum()]
+    [case.x.count(), case.events.len(), standing, classes, fields.map(total).sum()]
 }
 
 fn total(fields: [u16; 5]) -> usize {
@@ -59,9 +59,9 @@ fn candidates(case: &Case) -> Vec<Case> {
     for number in case.x.numbers() {
         all.push(without_record(case, number));
     }
-    for place in 0..case.steps.len() {
+    for place in 0..case.events.len() {
         let mut fewer = case.clone();
-        fewer.steps.remove(place);
+        fewer.events.remove(place);
         all.push(fewer);
     }
     for number in case.x.numbers() {
@@ -116,10 +116,12 @@ fn without_record(case: &Case, number: u16) -> Case {
             record.parent = close_up(record.parent);
         }
     }
-    fewer.steps.retain(|&(actor, _)| actor != number);
-    for (actor, partner) in &mut fewer.steps {
-        *actor = close_up(*actor);
-        *partner = close_up(*partner);
+    fewer.events.retain(|event| event.number() != number);
+    for event in &mut fewer.events {
+        *event = match *event {
+            Event::Step(actor, partner) => Event::Step(close_up(actor), close_up(partner)),
+            Event::Copy(copier) => Event::Copy(close_up(copier)),
+        };
     }
     fewer
 }
@@ -166,11 +168,11 @@ fn lower(record: &Record) -> Vec<Record> {
     if record.kind == Kind::Gone {
         return vec![Record::GONE; 9];
     }
-    let first = if record.kind == Kind::Ambient { 1 } else { 64 };
+    let first = *record.kind.labels().start();
     let label = |label: u8| Record { label: label.max(first), ..*record };
     vec![
         label(first),
-        label(record.label - 1),
+        label(record.label.saturating_sub(1)),
         label(record.label.saturating_sub(2)),
         Record { name: 0, ..*record },
         Record { name: record.name.saturating_sub(1), ..*record },

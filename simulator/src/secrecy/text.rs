@@ -1,6 +1,6 @@
 //! Counterexamples as text that people can read and the replay reads back.
 
-use super::Case;
+use super::{Case, Event};
 use crate::law::Law;
 use crate::record::{Itinerary, Kind, Record};
 use crate::table::{h_bit, i_bit, s_bit, Policy, Table, BOUNDARY, HIGH, LOW};
@@ -16,7 +16,7 @@ pub struct Stored {
 const HEADINGS: [&str; 7] = ["x", "y", "policy", "I", "H", "S", "steps"];
 
 pub fn print(stored: &Stored) -> String {
-    let Case { x, y, policy, table, steps } = &stored.case;
+    let Case { x, y, policy, table, events } = &stored.case;
     let mut text = format!("change {}\npart {}\n", stored.law.name(), stored.part);
     for (heading, itinerary) in [("x", x), ("y", y)] {
         let _ = writeln!(text, "\n{heading}");
@@ -42,8 +42,11 @@ pub fn print(stored: &Stored) -> String {
         let _ = writeln!(text, "{label}");
     }
     text += "\nsteps\n";
-    for (actor, partner) in steps {
-        let _ = writeln!(text, "{actor} {partner}");
+    for event in events {
+        let _ = match event {
+            Event::Step(actor, partner) => writeln!(text, "{actor} {partner}"),
+            Event::Copy(copier) => writeln!(text, "copy {copier}"),
+        };
     }
     text
 }
@@ -75,7 +78,7 @@ fn empty_case() -> Case {
         y: none,
         policy: Policy::from([LOW; 64]),
         table: Table::empty(),
-        steps: Vec::new(),
+        events: Vec::new(),
     }
 }
 
@@ -104,7 +107,8 @@ fn read_line(stored: &mut Stored, heading: &str, line: &str) -> Option<()> {
         "I" => case.table.set(i_bit(label(0)?, label(1)?)),
         "H" => case.table.set(h_bit(label(0)?, label(1)?)),
         "S" => case.table.set(s_bit(label(0)?)),
-        "steps" => case.steps.push((number(0)?, number(1)?)),
+        "steps" if words[0] == "copy" => case.events.push(Event::Copy(number(1)?)),
+        "steps" => case.events.push(Event::Step(number(0)?, number(1)?)),
         _ => return None,
     }
     Some(())

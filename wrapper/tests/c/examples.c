@@ -93,15 +93,15 @@ static void helpers(void)
 
 static void causes(void)
 {
-    const char *unknown = hub_cause(17);
+    const char *unknown = hub_cause(HUB_REFUSED_ROOM + 1);
     uint32_t number, other;
     int alike = 0;
     expect("done has a word", strcmp(hub_cause(HUB_DONE), "done") == 0);
     expect("6 in words", strcmp(hub_cause(HUB_REFUSED_CLIMB), "climbing doesn't reach 0") == 0);
     expect("a number that is none", strcmp(unknown, "unknown cause") == 0);
     expect("a number far away", strcmp(hub_cause(0xffffffffu), unknown) == 0);
-    for (number = HUB_DONE; number <= HUB_REFUSED_SET; number++) {
-        for (other = number + 1; other <= HUB_REFUSED_SET + 1; other++) {
+    for (number = HUB_DONE; number <= HUB_REFUSED_ROOM; number++) {
+        for (other = number + 1; other <= HUB_REFUSED_ROOM + 1; other++) {
             alike += strcmp(hub_cause(number), hub_cause(other)) == 0;
         }
     }
@@ -158,6 +158,7 @@ static void refusals(void)
     HubVerdictResult judged;
     HubExposedResult asked;
     HubRunResult ran;
+    HubCopyResult copied;
     HubMovesResult listed;
     HubJoinResult joined;
     HubScreenResult screened;
@@ -181,6 +182,8 @@ static void refusals(void)
     memcpy(work, example, sizeof work);
     ran = hub_run(work, sizeof work, script, sizeof script, bytes, 2);
     expect("too many answers", REFUSED(ran, HUB_REFUSED_SCRIPT, 0));
+    copied = hub_copy(work, sizeof work, 3);
+    expect("a copy of no copier", REFUSED(copied, HUB_REFUSED_COPIER, 0));
     listed = hub_moves(work, sizeof work, bytes, HUB_STEP_LENGTH - 1);
     expect("a short list", REFUSED(listed, HUB_REFUSED_LIST, 0));
     joined = hub_join(example, two, work, 0, work, 0, work, 0, usual, 63, table, 0, bytes, two + 1);
@@ -240,6 +243,45 @@ static void example_b(void)
     expect("B: its steps and records", screened.outs == 1 && screened.records == 2);
     expect("B: the screen's answers", answers[0] == HUB_DONE && answers[1] == HUB_REFUSED_ACTOR);
     expect("B: the screen's itinerary", memcmp(work, after, sizeof work) == 0);
+}
+
+/* In A's first record a copier, and beneath it B's other two; then gone records. */
+static void a_wash(void)
+{
+    uint8_t it[6 * HUB_RECORD_LENGTH] = {0}, before[sizeof it];
+    const uint32_t two_copied[] = {0, 0, 2};
+    HubMakeResult made;
+    HubCheckResult checked;
+    HubCopyResult copied;
+    HubStepResult stepped;
+    HubRecord copy;
+    memcpy(it, example, HUB_RECORD_LENGTH);
+    hub_write_record(it + record_at(2), HUB_COPIER, 0, 0, 1, 0);
+    hub_write_record(it + record_at(3), HUB_AMBIENT, 2, 1, 2, 999);
+    hub_write_record(it + record_at(4), HUB_OUT, 64, 0, 3, 0);
+    memcpy(before, it, sizeof it);
+    made = hub_make(it, sizeof it, usual, sizeof usual, table, sizeof table);
+    expect("a copier is in no table", DONE(made) && made.bits == 7);
+    stepped = hub_step(it, sizeof it, 4, 1);
+    expect("nothing beneath it acts", REFUSED(stepped, HUB_REFUSED_ACTIVE, 0));
+    copied = hub_copy(it, record_at(6), 2);
+    expect("one gone record too few", REFUSED(copied, HUB_REFUSED_ROOM, 0));
+    expect("nothing is copied", memcmp(it, before, sizeof it) == 0);
+    copied = hub_copy(it, sizeof it, 2);
+    expect("two records are copied", fields(&copied, sizeof copied, two_copied, 3) && copied.copied == 2);
+    expect("what was there stays", memcmp(it, before, record_at(5)) == 0);
+    copy = hub_read_record(it + record_at(5));
+    expect("the copier's child stands beside it", copy.kind == HUB_AMBIENT && copy.parent == 1);
+    expect("with its client", copy.client == 999);
+    copy = hub_read_record(it + record_at(6));
+    expect("parents are copies too", copy.kind == HUB_OUT && copy.parent == 5);
+    checked = hub_check(it, sizeof it, usual, sizeof usual, table, sizeof table);
+    expect("the table holds still", DONE(checked));
+    stepped = hub_step(it, sizeof it, 6, 1);
+    expect("the copy acts", DONE(stepped) && hub_read_record(it + record_at(5)).parent == 0);
+    it[record_at(2) + 1] = 64;
+    copied = hub_copy(it, sizeof it, 2);
+    expect("a copier with a label", REFUSED(copied, HUB_REFUSED_LABEL, 2));
 }
 
 /* A, nothing, B and A again: seven records. */
@@ -343,6 +385,7 @@ int main(void)
     example_a();
     refusals();
     example_b();
+    a_wash();
     a_joined_with_b();
     example_c();
     example_e();

@@ -1,8 +1,8 @@
 -- "Steps follow the published rules of Mobile Ambients." A well-formed itinerary is a process: each record, after all that
 -- stands above it, is put under its parent unless it is there already (`ensure`, by its depth), and so all of them up to the
 -- last (`listed`). It is one up to congruence: two readings of all records have the same counts (`equals`), and one is taken
--- out of the other record by record, brought to the front each time (`part`), until nothing is left. Then Laws/Reductions
--- and Laws/Chains, said of the calls.
+-- out of the other record by record, brought to the front each time (`part`), until nothing is left. Then Laws/Reductions,
+-- Laws/Chains and Laws/Unfolding, said of the calls.
 use Prim.Native.Nat.{◌+◌, ◌≤◌, suc, zero, ℕ}
 use Rattle.std.proofs.Common.{leb-true, ◌∙◌}
 use Rattle.std.specs.Prelude.{length, List, [], ◌∷◌, ◌≢◌, true, ◌≡◌, refl}
@@ -17,29 +17,31 @@ use Rattle.model.proofs.Laws.Done.{step-records}
 use Rattle.model.proofs.Laws.Forest.{Depth, root, under}
 use Rattle.model.proofs.Laws.Chains.{Chained, chain-list, perform-chain}
 use Rattle.model.proofs.Laws.Lists.{after-steps, given-steps, step-after}
-use Rattle.model.specs.Noninterference.{Event, after, all_steps, given, single, steps_of}
+use Rattle.model.specs.Noninterference.{Event, after, all_steps, given, single, steps_of, without_copying}
 use Rattle.model.specs.Scripts.{Step, after_list, answers_of}
 use Rattle.model.proofs.Laws.Readings.{Downward, Front, Once, Whole, beneath, climbs, conform, focus, front-inner, one-le, one-other, one-self, read-alive, whole-downward}
 use Rattle.model.proofs.Laws.Reductions.{means-whole, reduction-steps, step-reduces}
+use Rattle.model.proofs.Laws.Unfolding.{call-copied}
 use Rattle.model.proofs.Laws.Updates.{at-root}
 use Rattle.model.proofs.Laws.WellFormed.{Alive, WellFormed, alive-in, alive-pos}
 use Rattle.model.specs.Validity.{kind_right, shape, validity}
 use Rattle.model.proofs.Laws.Booleans.{and_left}
-use Rattle.model.specs.Processes.{Chain, Congruent, Demand2Steps, Head, Means, Process, Reads, Says, ◌·◌, ◌‖◌, ambient, associates, both, cap, commutes, done_in, end, inside, nothing, one, parallel, read, reflexive, says-ambient, says-cap, symmetric, times, transitive, unit}
-use Rattle.model.specs.Records.{Capability, at, cap-in, cap-open, cap-out, capability, count, is_ambient, parent_of, records}
+use Rattle.model.specs.Processes.{Chain, Congruent, Demand2Steps, Head, Means, Process, Reads, Says, ◌·◌, ◌‖◌, ambient, associates, both, cap, commutes, done_in, end, inside, nothing, one, parallel, read, reflexive, replication, says-ambient, says-cap, says-replication, symmetric, times, transitive, unit}
+use Rattle.model.specs.Records.{Capability, at, cap-in, cap-open, cap-out, capability, count, is_ambient, is_replication, parent_of, records}
 use Rattle.model.specs.Refusals.{and_then, answer, done, pass}
 use Rattle.model.specs.Steps.{Outcome, done-by, outcome, step, refused-with}
 use Rattle.model.specs.declared.Rec.{Rec}
 
 -- a record of a well-formed itinerary says a head
 says_some : (r : Rec) (n : ℕ) → r.kind ≡ n → shape r ≡ true → n ≢ 0 → (h : Head) × Says r h
-unfolding shape kind_right is_ambient capability
+unfolding shape kind_right is_ambient is_replication capability
 says_some r zero e s z = absurd (z refl)
 says_some r (suc zero) e s z = (ambient r.label r.name, says-ambient (rw e) refl refl)
 says_some r (suc (suc zero)) e s z = (cap cap-in r.label r.name, says-cap (ap capability e) refl refl)
 says_some r (suc (suc (suc zero))) e s z = (cap cap-out r.label r.name, says-cap (ap capability e) refl refl)
 says_some r (suc (suc (suc (suc zero)))) e s z = (cap cap-open r.label r.name, says-cap (ap capability e) refl refl)
-says_some r (suc (suc (suc (suc (suc n))))) e s z = absurd (omega (arith, leb-true r.kind 4 (and_left _ _ s)))
+says_some r (suc (suc (suc (suc (suc zero))))) e s z = (replication, says-replication (rw e))
+says_some r (suc (suc (suc (suc (suc (suc n)))))) e s z = absurd (omega (arith, leb-true r.kind 5 (and_left _ _ s)))
 
 -- some process read from q, each record j as often as N says
 record Grown (its : List Rec) (q : ℕ) (N : ℕ → ℕ) : Type 0 where
@@ -256,9 +258,9 @@ module _ (s : List ℕ) (v : validity s ≡ pass) (c b : ℕ) where
   call-records = ap records (step-after s v c b) ∙ step-records permit_all s c b
 
 -- the chain of a list of events is that of its steps
-by-calls : (es : List Event) (s : List ℕ) → validity s ≡ pass → {P : Process} → Chained permit_all P (answers_of permit_all s (all_steps es)) (after_list permit_all s (all_steps es)) →
+by-calls : (es : List Event) (s : List ℕ) → validity s ≡ pass → without_copying es ≡ true → {P : Process} → Chained permit_all P (answers_of permit_all s (all_steps es)) (after_list permit_all s (all_steps es)) →
     (Q : Process) × Chain permit_all (done_in (given s es)) P Q × Means (records (after s es)) Q
-by-calls es s v w = (w.last, rw (given-steps es s v) w.chain, rw (after-steps es s v) w.means)
+by-calls es s v o w = (w.last, rw (given-steps es s v o) w.chain, rw (after-steps es s v o) w.means)
 
 -- steps, each an event of its own
 singly : List Step → List Event
@@ -270,11 +272,16 @@ unfolding all_steps steps_of singly
 steps-singly [] = refl
 steps-singly (m ∷ ms) = ap (λ l. m ∷ l) (steps-singly ms)
 
+singly-without : (ms : List Step) → without_copying (singly ms) ≡ true
+unfolding without_copying singly
+singly-without [] = refl
+singly-without (m ∷ ms) = singly-without ms
+
 after-singly : (ms : List Step) (s : List ℕ) → validity s ≡ pass → after s (singly ms) ≡ after_list permit_all s ms
-after-singly ms s v = after-steps (singly ms) s v ∙ ap (after_list permit_all s) (steps-singly ms)
+after-singly ms s v = after-steps (singly ms) s v (singly-without ms) ∙ ap (after_list permit_all s) (steps-singly ms)
 
 given-singly : (ms : List Step) (s : List ℕ) → validity s ≡ pass → given s (singly ms) ≡ answers_of permit_all s ms
-given-singly ms s v = given-steps (singly ms) s v ∙ ap (answers_of permit_all s) (steps-singly ms)
+given-singly ms s v = given-steps (singly ms) s v (singly-without ms) ∙ ap (answers_of permit_all s) (steps-singly ms)
 
 -- "Steps follow the published rules of Mobile Ambients."
 pub follows-rules : Demand2Steps
@@ -288,6 +295,7 @@ follows-rules s n a =
       closed = means-alike;
       sound = λ m c b e. let k = call-done s v c b e in rw (call-records s v c b) (step-reduces wf m k.0 c b k.1);
       complete = λ m x. let w = reduction-steps wf m x in (w.1, w.2, done-call s v w.1 w.2 w.0 w.3, rw (call-records s v w.1 w.2) w.4);
-      chained = λ m es. by-calls es s v (chain-list (all_steps es) s v m);
-      listed = λ m ms. let w = perform-chain ms s v m in (singly w.steps, given-singly w.steps s v ∙ w.answers, rw (after-singly w.steps s v) w.means);
+      chained = λ m es o. by-calls es s v o (chain-list (all_steps es) s v m);
+      listed = λ m ms. let w = perform-chain ms s v m in (singly w.steps, singly-without w.steps, given-singly w.steps s v ∙ w.answers, rw (after-singly w.steps s v) w.means);
+      copied = call-copied s;
     }

@@ -74,8 +74,8 @@ list-keeps (m ∷ ms) s i v live =
 
 -- "kept by every move"
 pub clients-kept : ClientsKept
-clients-kept s es i v live =
-    let e = after-steps es s v in
+clients-kept s es i v w live =
+    let e = after-steps es s v w in
     ap (λ x. (at (records x) i).client) e ∙ (list-keeps (all_steps es) s i v (rw e at live)).1
 
 -- a sheet shows a record whole, or not at all

@@ -8,9 +8,9 @@ use Rattle.model.specs.Analysis.{Permit, holds, only_if, record_holds, row_insid
 use Rattle.model.specs.Climbing.{container}
 use Rattle.model.specs.Finite.{every}
 use Rattle.model.proofs.Laws.Booleans.{and_left, and-make, and_right, only_if-make, only_if-use}
-use Rattle.model.proofs.Laws.Done.{cap-nested}
+use Rattle.model.proofs.Laws.Done.{cap-nested, same-amb}
 use Rattle.model.proofs.Laws.Finite.{every-make, every-use}
-use Rattle.model.proofs.Laws.WellFormed.{alive-in, amb-nested, nested-alive}
+use Rattle.model.proofs.Laws.WellFormed.{SameBut, alive-in, amb-nested, nested-alive, same-nested}
 use Rattle.model.specs.Records.{Capability, at, cap-in, cap-open, cap-out, capability, is_ambient, nested}
 use Rattle.model.specs.Tables.{Table, is_high}
 use Rattle.model.specs.declared.Rec.{Rec}
@@ -115,6 +115,14 @@ fits-other {r = r} e = record {
   nest = λ h. absurd (true≢false (sym h ∙ e));
   names = λ h. absurd (true≢false (sym (amb-nested r h) ∙ e));
   rules = λ k h. absurd (true≢false (sym (cap-nested r k h) ∙ e));
+}
+
+-- what fits a record fits one that differs in the parent alone
+pub fits-as : {permit : Permit} {T : Table} {c c' : ℕ} {r r' : Rec} → SameBut r r' → c' ≡ c → Fits permit T c r → Fits permit T c' r'
+fits-as s e f = record {
+  nest = λ h. rw (e, s.label) (f.nest (sym (same-nested s) ∙ h));
+  names = λ h. rw (s.label, s.name) (f.names (sym (same-amb s) ∙ h));
+  rules = λ k h. rw (s.label, s.name) (f.rules k (rw s.kind at h));
 }
 
 module _ (permit : Permit) (policy : List ℕ) (its : List Rec) (T : Table) where

@@ -1,15 +1,16 @@
--- A list of steps, run at once or one by one; what a run writes at each place.
+-- A list of steps, run at once or one by one; what a run writes at each place. A copy is no step, so what goes by steps is said of
+-- lists without copying.
 use Prim.Native.Nat.{◌<◌, suc, zero, ℕ}
 use Rattle.std.specs.Prelude.{get_or, length, replicate, take, Bool, ◌≡◌}
 use Rattle.std.proofs.Math.ListN.{length-replicate}
 use Rattle.std.proofs.Math.Bool.{false, true}
 use mathlib.Core.List.{List, [], ◌++◌, ◌∷◌, map}
-use Rattle.std.proofs.Common.{◌∙◌, ap₂, sym, arith}
+use Rattle.std.proofs.Common.{true≢false, ◌∙◌, ap₂, sym, arith}
 use Rattle.std.proofs.Math.Path.{ap, refl}
 use Rattle.model.specs.Analysis.{Permit, permit_all}
-use Rattle.model.specs.Calls.{outcome_check, run_after, run_answers, running, step_after, step_answer, stepping}
+use Rattle.model.specs.Calls.{copy_after, outcome_check, run_after, run_answers, running, step_after, step_answer, stepping}
 use Rattle.model.proofs.Laws.Done.{list-valid, step-valid}
-use Rattle.model.specs.Noninterference.{Event, after, after_event, after_steps, all_steps, given, given_by, kept, script, single, steps_of}
+use Rattle.model.specs.Noninterference.{Event, after, after_event, after_steps, all_steps, copying, given, given_by, kept, script, single, steps_of, without_copying}
 use Rattle.model.specs.Records.{records}
 use Rattle.model.specs.Refusals.{and_then, answer, content, need, number, pass, refuse}
 use Rattle.model.specs.Scripts.{Step, after_list, answers_of, steps_in, outcomes, script_right}
@@ -68,32 +69,63 @@ module _ (s : List ℕ) (v : validity s ≡ pass) where
   run-event z room true e = let c : running s z (replicate room 0) ≡ pass = run-check z room ∙ ap (λ x. need x 13 0) e in (rw (c, content), rw (c, content))
   run-event z room false e = let c : running s z (replicate room 0) ≡ refuse 13 0 = run-check z room ∙ ap (λ x. need x 13 0) e in (rw (c, content), refl)
 
-  -- an event is its steps in order
-  pub event-after : (e : Event) → after_event s e ≡ after_list permit_all s (steps_of e)
-  unfolding after_event steps_of after_list
-  event-after (single c b) = step-after c b
-  event-after (script z room) = (run-event z room (script_right z room) refl).0
+  -- an event that is no copy is its steps in order
+  pub event-after : (e : Event) → without_copying (e ∷ []) ≡ true → after_event s e ≡ after_list permit_all s (steps_of e)
+  unfolding after_event steps_of after_list without_copying
+  event-after (single c b) w = step-after c b
+  event-after (script z room) w = (run-event z room (script_right z room) refl).0
+  event-after (copying n) w = absurd (true≢false (sym w))
 
+  -- a copy has no answers
   pub event-given : (e : Event) → given_by s e ≡ answers_of permit_all s (steps_of e)
   unfolding given_by steps_of answers_of outcomes
   event-given (single c b) = ap (λ n. n ∷ []) (step-number c b)
   event-given (script z room) = (run-event z room (script_right z room) refl).1
+  event-given (copying n) = refl
+
+-- what steps in order and a copy keep, every list of events keeps
+module _ (P : List ℕ → Type 0) (valid : (s : List ℕ) → P s → validity s ≡ pass) (by-steps : (ms : List Step) (s : List ℕ) → P s → P (after_list permit_all s ms))
+    (by-copy : (s : List ℕ) (c : ℕ) → P s → P (copy_after s c)) where
+  event-keeps : (e : Event) (s : List ℕ) → P s → P (after_event s e)
+  unfolding after_event without_copying
+  event-keeps (single c b) s p = rw (event-after s (valid s p) (single c b) refl) (by-steps (steps_of (single c b)) s p)
+  event-keeps (script z room) s p = rw (event-after s (valid s p) (script z room) refl) (by-steps (steps_of (script z room)) s p)
+  event-keeps (copying n) s p = by-copy s n p
+
+  pub events-keep : (es : List Event) (s : List ℕ) → P s → P (after s es)
+  unfolding after
+  events-keep [] s p = p
+  events-keep (e ∷ es) s p = events-keep es (after_event s e) (event-keeps e s p)
+
+-- a list without copying has none in its first event, and none behind it
+pub first-without : (e : Event) (es : List Event) → without_copying (e ∷ es) ≡ true → without_copying (e ∷ []) ≡ true
+unfolding without_copying
+first-without (single c b) es w = refl
+first-without (script z room) es w = refl
+first-without (copying n) es w = w
+
+pub rest-without : (e : Event) (es : List Event) → without_copying (e ∷ es) ≡ true → without_copying es ≡ true
+unfolding without_copying
+rest-without (single c b) es w = w
+rest-without (script z room) es w = w
+rest-without (copying n) es w = absurd (true≢false (sym w))
 
 -- a list of events is its steps in order
-pub after-steps : (es : List Event) (s : List ℕ) → validity s ≡ pass → after s es ≡ after_list permit_all s (all_steps es)
+pub after-steps : (es : List Event) (s : List ℕ) → validity s ≡ pass → without_copying es ≡ true → after s es ≡ after_list permit_all s (all_steps es)
 unfolding after all_steps after_list
-after-steps [] s v = refl
-after-steps (e ∷ es) s v =
-    ap (λ x. after x es) (event-after s v e)
-    ∙ after-steps es (after_list permit_all s (steps_of e)) (list-valid permit_all (steps_of e) s v)
+after-steps [] s v w = refl
+after-steps (e ∷ es) s v w =
+    ap (λ x. after x es) (event-after s v e (first-without e es w))
+    ∙ after-steps es (after_list permit_all s (steps_of e)) (list-valid permit_all (steps_of e) s v) (rest-without e es w)
     ∙ sym (list-append permit_all s (steps_of e) (all_steps es))
 
-pub given-steps : (es : List Event) (s : List ℕ) → validity s ≡ pass → given s es ≡ answers_of permit_all s (all_steps es)
+pub given-steps : (es : List Event) (s : List ℕ) → validity s ≡ pass → without_copying es ≡ true → given s es ≡ answers_of permit_all s (all_steps es)
 unfolding given all_steps answers_of outcomes
-given-steps [] s v = refl
-given-steps (e ∷ es) s v =
-    ap₂ (λ x y. x ++ given y es) (event-given s v e) (event-after s v e)
-    ∙ ap (λ x. answers_of permit_all s (steps_of e) ++ x) (given-steps es (after_list permit_all s (steps_of e)) (list-valid permit_all (steps_of e) s v))
+given-steps [] s v w = refl
+given-steps (e ∷ es) s v w =
+    ap₂ (λ x y. x ++ given y es) (event-given s v e) (event-after s v e (first-without e es w))
+    ∙ ap (λ x. answers_of permit_all s (steps_of e) ++ x)
+    (given-steps es (after_list permit_all s (steps_of e)) (list-valid permit_all (steps_of e) s v) (rest-without e es w))
     ∙ sym (answers-append permit_all s (steps_of e) (all_steps es))
 
 -- single steps by the call

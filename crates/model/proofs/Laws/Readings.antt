@@ -5,9 +5,9 @@
 -- same records (`conform`, by induction on the congruence), and a child of the start is brought to the front up to
 -- congruence (`focus`).
 use Prim.Native.Nat.{◌+◌, ◌≤◌, ℕ}
-use Rattle.std.proofs.Common.{eq-eqb, ne_eqb, true≢false, ◌∙◌, ap, ap₂, sym}
+use Rattle.std.proofs.Common.{eq-eqb, eqb-true, ne_eqb, true≢false, ◌∙◌, ap, ap₂, sym}
 use Rattle.std.specs.Prelude.{eqb, true, List, ◌≢◌, ◌≡◌}
-use Rattle.std.specs.Prelude.{Some}
+use Rattle.std.specs.Prelude.{Option, None, Some}
 use Rattle.std.proofs.Math.Path.{refl, subst}
 use Rattle.std.proofs.Math.Decide.{dec_le, ℕ_discrete}
 use native.Mathlib.Omega.{arith}
@@ -15,8 +15,8 @@ use Rattle.model.specs.Finite.{one_if}
 use Rattle.model.proofs.Laws.Done.{amb-alive, cap-alive, cap-not-amb, same-amb}
 use Rattle.model.proofs.Laws.Forest.{one_if-le}
 use Rattle.model.proofs.Laws.WellFormed.{Alive, SameBut, same_of, same-to}
-use Rattle.model.specs.Processes.{Congruent, Head, Process, Reads, Says, ◌·◌, ◌‖◌, ambient, associates, both, commutes, end, inside, nothing, one, cap, parallel, read, reflexive, says-ambient, says-cap, symmetric, times, transitive, unit}
-use Rattle.model.specs.Records.{Capability, at, capability, is_ambient, parent_of}
+use Rattle.model.specs.Processes.{Congruent, Head, Process, Reads, Says, ◌·◌, ◌‖◌, ambient, associates, both, commutes, end, inside, nothing, one, cap, parallel, read, reflexive, replication, says-ambient, says-cap, says-replication, symmetric, times, transitive, unit}
+use Rattle.model.specs.Records.{Capability, at, capability, is_ambient, is_replication, parent_of}
 use Rattle.model.specs.Steps.{to}
 use Rattle.model.specs.declared.Rec.{Rec}
 
@@ -38,9 +38,18 @@ one-le i j = one_if-le (eqb i j)
 pub differ : (i j : ℕ) → one i j ≡ 0 → i ≢ j
 differ i j z e = omega (arith, z, one_same i j e)
 
+pub of-kind-5 : (r : Rec) → is_replication r ≡ true → r.kind ≡ 5
+unfolding is_replication
+of-kind-5 r a = eqb-true _ _ a
+
+kind-5 : (r : Rec) → r.kind ≡ 5 → is_replication r ≡ true
+unfolding is_replication
+kind-5 r e = eq-eqb _ _ e
+
 pub says_same : {r r' : Rec} {h : Head} → SameBut r r' → Says r h → Says r' h
 says_same e (says-ambient a l n) = says-ambient (same-amb e ∙ a) (e.label ∙ l) (e.name ∙ n)
 says_same e (says-cap k l n) = says-cap (ap capability e.kind ∙ k) (e.label ∙ l) (e.name ∙ n)
+says_same {r' = r'} e (says-replication a) = says-replication (kind-5 r' (e.kind ∙ of-kind-5 _ a))
 
 pub ambient-said : {r : Rec} {l n : ℕ} → Says r (ambient l n) → (is_ambient r ≡ true) × (r.label ≡ l) × (r.name ≡ n)
 ambient-said (says-ambient a l n) = (a, l, n)
@@ -51,6 +60,13 @@ cap-said (says-cap k l n) = (k, l, n)
 pub says-alive : (its : List Rec) (i : ℕ) {h : Head} → Says (at its i) h → Alive its i
 says-alive its i (says-ambient a l n) = amb-alive its i a
 says-alive its i (says-cap {k = k} e l n) = cap-alive its i k e
+says-alive its i (says-replication a) = λ e. omega (arith, of-kind-5 (at its i) a)
+
+replication-only : (r : Rec) {h : Head} → is_replication r ≡ true → Says r h → h ≡ replication
+unfolding is_ambient capability
+replication-only r b (says-ambient a l n) = absurd (omega (arith, eqb-true _ _ a, of-kind-5 r b))
+replication-only r b (says-cap {k = k} e l n) = let w : ◌≡◌ {A = Option Capability} None (Some k) = rw (of-kind-5 r b) at e in let u : ◌≡◌ {A = ℕ} 0 1 = cc in absurd (omega arith)
+replication-only r b (says-replication a) = refl
 
 pub says-unique : (its : List Rec) (i : ℕ) {h h' : Head} → Says (at its i) h → Says (at its i) h' → h ≡ h'
 says-unique its i (says-ambient a l n) (says-ambient a' l' n') = ap₂ ambient (sym l ∙ l') (sym n ∙ n')
@@ -61,6 +77,9 @@ says-unique its i (says-cap {k = k} e l n) (says-cap {k = k'} e' l' n') =
     let v = sym l ∙ l' in
     let w = sym n ∙ n' in
     cc
+says-unique its i (says-ambient a l n) (says-replication b) = replication-only (at its i) b (says-ambient a l n)
+says-unique its i (says-cap e l n) (says-replication b) = replication-only (at its i) b (says-cap e l n)
+says-unique its i (says-replication a) s = sym (replication-only (at its i) a s)
 
 -- a record x that stays, one that gets the parent q
 abbrev pub read_same : {its' : List Rec} {x : Rec} {q : ℕ} {h : Head} {P : Process} (i : ℕ) → Says x h → x.parent ≡ q → at its' i ≡ x → Reads its' i P → Reads its' q (h · P)

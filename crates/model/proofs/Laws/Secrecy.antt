@@ -9,15 +9,16 @@ use Rattle.model.specs.Finite.{every}
 use Rattle.model.proofs.Laws.Boundary.{SealedOff, environment-clear, sealed-closed, suspect-guarded}
 use Rattle.model.proofs.Laws.Bytes.{records-encode, valid-wf}
 use Rattle.model.proofs.Laws.Checks.{all_pass, answer-done, answer-value, passes}
+use Rattle.model.proofs.Laws.Copying.{copy-holding, copy-valid}
 use Rattle.model.proofs.Laws.Done.{list-valid, outcome-done, step-records, step-valid}
 use Rattle.model.proofs.Laws.Holding.{Holds, holds-complete, holds-sound}
-use Rattle.model.proofs.Laws.Lists.{after-steps, answer_at, given-steps, single-steps}
+use Rattle.model.proofs.Laws.Lists.{after-steps, answer_at, events-keep, given-steps, single-steps}
 use Rattle.model.proofs.Laws.Sheet.{by-hidden, sheet-hidden}
 use Rattle.model.proofs.Laws.Simulation.{same_outcome, sheet-step}
 use Rattle.model.proofs.Laws.SubjectReduction.{move-holds}
 use Rattle.model.proofs.Laws.WellFormed.{WellFormed, small}
 use Rattle.model.proofs.Laws.Booleans.{and_right}
-use Rattle.model.specs.Noninterference.{Demand3, Event, EveryClient, HighGuarded, OnSheet, SuspectsGuarded, after, all_steps, before, given, step_at}
+use Rattle.model.specs.Noninterference.{Demand3, Event, EveryClient, HighGuarded, OnSheet, SuspectsGuarded, after, all_steps, before, given, step_at, without_copying}
 use Rattle.model.specs.Observer.{sheet, sheet_of}
 use Rattle.model.specs.Records.{at, byte, encode, records}
 use Rattle.model.specs.Refusals.{answer, content, done, pass}
@@ -118,15 +119,19 @@ module _ {permit : Permit} {policy : List ℕ} {T : Table} where
           ∙ ap (λ l. outcome permit l c b) (sheets-same ms)
           ∙ outcome-shown (after_list permit y ms) (guarding-list ms y wy) c b (rw (sheets-same ms) at n)
 
--- subject reduction: an itinerary stays valid, and an accepted table accepted, after every list of events
+-- subject reduction: an itinerary stays valid, and an accepted table accepted, after every list of events, copying included
 pub valid-after : (es : List Event) (s : List ℕ) → validity s ≡ pass → validity (after s es) ≡ pass
-valid-after es s v = rw (after-steps es s v) (list-valid permit_all (all_steps es) s v)
+valid-after = events-keep (λ s. validity s ≡ pass) (λ s v. v) (list-valid permit_all) copy-valid
+
+guarding-after : {policy : List ℕ} {T : Table} (es : List Event) (s : List ℕ) → Guarding permit_all policy T s → Guarding permit_all policy T (after s es)
+guarding-after {policy} {T} = events-keep (Guarding permit_all policy T) (λ s w. w.valid) guarding-list
+    (λ s c w. record { valid = copy-valid s c w.valid; holding = copy-holding s c w.valid w.holding })
 
 pub accepted-after : (es : List Event) (s policy table : List ℕ) → check_answer s policy table ≡ done tt → check_answer (after s es) policy table ≡ done tt
 accepted-after es s policy table h =
     let w = accepted s policy table h in
-    let k = guarding-list (all_steps es) s (record { valid = w.valid; holding = w.holding }) in
-    rw (after-steps es s w.valid) (accept _ policy table (record { valid = k.valid; policy-right = w.policy-right; table-right = w.table-right; holding = k.holding }))
+    let k = guarding-after es s (record { valid = w.valid; holding = w.holding }) in
+    accept _ policy table (record { valid = k.valid; policy-right = w.policy-right; table-right = w.table-right; holding = k.holding })
 
 -- "and so every high one": under an accepted table a high label is suspect
 pub high-guarded : (policy table s : List ℕ) → check_answer s policy table ≡ done tt → SuspectsGuarded policy table s → HighGuarded policy s
@@ -142,8 +147,8 @@ noninterference policy table x y size hx hy v same es = record {
   guarded' = guard y ay;
   high = high-guarded policy table (after x es) (accepted-after es x policy table hx) (guard x ax);
   high' = high-guarded policy table (after y es) (accepted-after es y policy table hy) (guard y ay);
-  sheets = sheets-after es;
-  answers = λ n l on. answers-after n l on;
+  sheets = sheets-after;
+  answers = answers-after;
 }
   where
     T : Table
@@ -179,15 +184,15 @@ noninterference policy table x y size hx hy v same es = record {
     sheets-at : (ms : List Step) → sheet_of (after_list permit_all x ms) table ≡ sheet_of (after_list permit_all y ms) table
     sheets-at ms = ap encode (sheets-same clear x y sx sy same' ms)
 
-    sheets-after : (es : List Event) → sheet_of (after x es) table ≡ sheet_of (after y es) table
-    sheets-after es = ap (λ s. sheet_of s table) (after-steps es x ax.valid) ∙ sheets-at (all_steps es) ∙ sym (ap (λ s. sheet_of s table) (after-steps es y ay.valid))
+    sheets-after : without_copying es ≡ true → sheet_of (after x es) table ≡ sheet_of (after y es) table
+    sheets-after w = ap (λ s. sheet_of s table) (after-steps es x ax.valid w) ∙ sheets-at (all_steps es) ∙ sym (ap (λ s. sheet_of s table) (after-steps es y ay.valid w))
 
-    answers-after : (n : ℕ) → n < length (all_steps es) → OnSheet table (before x es n) (step_at es n).actor → get_or (given x es) n 0 ≡ get_or (given y es) n 0
-    answers-after n l on =
+    answers-after : without_copying es ≡ true → (n : ℕ) → n < length (all_steps es) → OnSheet table (before x es n) (step_at es n).actor → get_or (given x es) n 0 ≡ get_or (given y es) n 0
+    answers-after w n l on =
         let ms = all_steps es in
-        ap (λ a. get_or a n 0) (given-steps es x ax.valid) ∙ answer_at permit_all x (all_steps es) n l _
+        ap (λ a. get_or a n 0) (given-steps es x ax.valid w) ∙ answer_at permit_all x (all_steps es) n l _
         ∙ ap answer_of (outcomes-same clear x y sx sy same' (take n (all_steps es)) _ _ (λ k. on (shown k)))
-        ∙ sym (ap (λ a. get_or a n 0) (given-steps es y ay.valid) ∙ answer_at permit_all y (all_steps es) n l _)
+        ∙ sym (ap (λ a. get_or a n 0) (given-steps es y ay.valid w) ∙ answer_at permit_all y (all_steps es) n l _)
       where
         shown : (at (sheet (records (after_list permit_all x (take n (all_steps es)))) T.S) (step_at es n).actor).kind ≡ 0 → (at (records (sheet_of (before x es n) table)) (step_at es n).actor).kind ≡ 0
         shown k = ap (λ s. (at (records (sheet_of s table)) (step_at es n).actor).kind) (single-steps (take n (all_steps es)) x ax.valid) ∙ ap (λ l. (at l (step_at es n).actor).kind) (sheet-records _ table) ∙ k

@@ -55,7 +55,7 @@ pub nested-alive : (r : Rec) → nested r ≡ true → r.kind ≢ 0
 unfolding nested
 nested-alive r h e = omega (arith, leb-true 1 r.kind (and_left _ _ h))
 
-name-by : (t : Bool) (n : ℕ) → name_by t n ≡ true → n < 64
+pub name-by : (t : Bool) (n : ℕ) → name_by t n ≡ true → n < 64
 unfolding name_by
 name-by true n h = omega (arith, leb-true n 63 h)
 name-by false n h = omega (arith, eqb-true n 0 h)
@@ -65,7 +65,7 @@ unfolding label_in
 label-not-zero true l h e = omega (arith, leb-true 1 l (and_left _ _ h))
 label-not-zero false l h e = omega (arith, leb-true 64 l (and_left _ _ h))
 
-label-by : (n a : Bool) (l : ℕ) → label_by n a l ≡ true → l < 128
+pub label-by : (n a : Bool) (l : ℕ) → label_by n a l ≡ true → l < 128
 unfolding label_by
 label-by true a l h = label-in a l h
 label-by false a l h = omega (arith, eqb-true l 0 h)

@@ -10,7 +10,7 @@ use Rattle.model.specs.Records.{count, decode}
 use Rattle.model.specs.Refusals.{pass}
 use Rattle.model.specs.Validity.{validity}
 use Rattle.table_partners.specs.Laws.{read-shape}
-use Rattle.table_partners.specs.Standing.{stands, stands-not}
+use Rattle.table_partners.specs.Standing.{stands, stands-not, within}
 use Rattle.tables.specs.Loops.{all_pass, one-fails}
 use Rattle.ways.specs.Valid.{parent-near}
 use Rattle.table_holds.proofs.nesting_holds.Goals as goal
@@ -50,8 +50,7 @@ stands-requires c =
     let it = c.args.it.now in let v = valid d.After-it in let e = is d.After-record_at-r in
     let h : c.loop-i.i + 1 ≤ count it = omega (arith, c.count-i-end.ensures) in
     let p = nearest-read (near d.After-enclose v) _ (parent-near it v _ _ e) _ c.unwrap.ensures in
-    let k = stands it v c.loop-i.i h c.record_at-r.result e _ p (sym c.is_nested.ensures ∙ c.if-is_nested.true) in
-    record { shaped = read-shape it (c.loop-i.i + 1) c.record_at-r.result v h e; container_bound = k.above }
+    record { shaped = read-shape it (c.loop-i.i + 1) c.record_at-r.result v h e; container_bound = (within it v c.loop-i.i h c.record_at-r.result e _ p).above }
 
 pub returns-then-not-stands : goal.returns-then-not-stands
 unfolding nesting_holds

@@ -9,7 +9,7 @@ use Rattle.model.specs.Refusals.{pass}
 use Rattle.model.specs.Tables.{bits}
 use Rattle.model.specs.Validity.{validity}
 use Rattle.table_partners.specs.Facts.{nesting_cell, standing}
-use Rattle.table_partners.specs.Standing.{stands, stands-not}
+use Rattle.table_partners.specs.Standing.{stands, stands-not, within}
 use Rattle.table_seed.specs.Laws.{cells-no, cells-none, cells-yes}
 use Rattle.table_seed.specs.Seeds.{CellsSet}
 use Rattle.ways.specs.Valid.{parent-near}
@@ -50,7 +50,7 @@ set_bit-requires c =
     let v = valid d.After-it in let e = is d.After-record_at-r in
     let p = nearest-read (near d.After-enclose v) _ (parent-near c.args.it.now v _ _ e) _ c.unwrap-container.ensures in
     let h : c.loop-i.i + 1 ≤ count c.args.it.now = omega (arith, c.count-i-end.ensures) in
-    let k = stands c.args.it.now v c.loop-i.i h c.record_at-r.result e _ p (sym c.is_nested.ensures ∙ c.if-is_nested.true) in
+    let k = within c.args.it.now v c.loop-i.i h c.record_at-r.result e _ p in
     let x = k.label in let y = k.above in omega arith
 
 pub loop-i-preserved : goal.loop-i-preserved
@@ -63,7 +63,8 @@ loop-i-preserved c =
       | then-is_nested w ↦
           let p = nearest-read (near d.After-enclose v) _ (parent-near it v _ _ e) _ w.unwrap-container.ensures in
           let k = stands it v l.i h r e _ p (sym c.is_nested.ensures ∙ w.if-is_nested.true) in
-          let a = w.unwrap-container.result.label in let x = k.label in let y = k.above in (
+          let b = within it v l.i h r e _ p in
+          let a = w.unwrap-container.result.label in let x = b.label in let y = b.above in (
             c.if-is_nested.array_long,
             cells-yes (standing (records it)) (nesting_cell (records it)) l.i l.table _ (128 * a + r.label) k.test k.cell (omega (arith, l.invariant.0)) (w.table-is ∙ w.set_bit.ensures) l.invariant.1,
           )

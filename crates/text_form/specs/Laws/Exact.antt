@@ -5,12 +5,12 @@ use Rattle.std.specs.Prelude.{None, Some, Result, Ok, Err}
 use Rattle.model.proofs.Laws.Bytes.{records-encode}
 use Rattle.model.specs.Listing.{digits_in}
 use Rattle.model.specs.Records.{byte, encode, records}
-use Rattle.model.specs.Validity.{label_in}
+use Rattle.model.specs.Validity.{label_by, name_by}
 use Rattle.text_form.specs.Laws.Lines.{ended-good, line-parts, name_bytes, named-good, number-good, scan-bad, scan_good, scan-nested, served-good, tail_bytes, worded-as, worded-good}
 use Rattle.text_form.specs.Laws.Numerals.{demand-good, first-1, number-some, numeral-exact}
 use Rattle.text_form.specs.Laws.Clients.{client-exact}
 use Rattle.text_form.specs.Laws.Nesting.{walk-placed}
-use Rattle.text_form.specs.Lines.{ambient_kind, client_bytes, kind_word, line_bytes, line_word, render}
+use Rattle.text_form.specs.Lines.{ambient_kind, client_bytes, kind_word, line_bytes, line_word, nested_kind, render}
 use Rattle.text_form.specs.Reading.{before, client_read, ended, labelled, leading, line_read, named, number_read, placed, scan, scan_from, served, spaces, starts, worded}
 use Rattle.text_form.specs.Writing.{text_of}
 use Rattle.text_form.specs.declared.Kind.{Kind}
@@ -72,7 +72,7 @@ named-exact d k label s {l} {left} e =
     let z = demand-good (eqb (byte s 0) 32) _ _ e in
     let y = number-good (number_read cause.NoName (drop 1 s)) _ z.1 in
     let n = y.0 in
-    let c = demand-good (leb n.value 63) cause.WrongName _ y.2 in
+    let c = demand-good (name_by (nested_kind k) n.value) cause.WrongName _ y.2 in
     let g = served-good d k label n.value _ c.1 in
     let p : left < length (drop 1 s) = omega (arith, g.fewer, length-drop n.width (drop 1 s)) in
     let q : drop (length (drop n.width (drop 1 s)) - left) (drop n.width (drop 1 s)) ≡ drop (length s - left) s = left-same n.width (drop 1 s) left g.fewer ∙ left-same 1 s left p in
@@ -95,7 +95,7 @@ unfolding labelled
 labelled-exact d k s {l} {left} e =
     let z = number-good (number_read cause.NoLabel s) _ e in
     let n = z.0 in
-    let b = demand-good (label_in (ambient_kind k) n.value) cause.WrongLabel _ z.2 in
+    let b = demand-good (label_by (nested_kind k) (ambient_kind k) n.value) cause.WrongLabel _ z.2 in
     let g = (named-good d k n.value _ b.1).2 in
     record {
       depth = g.depth;

@@ -12,7 +12,7 @@ use Rattle.model.proofs.Laws.Bytes.{count-encode, length-records, records-encode
 use Rattle.model.proofs.Laws.Finite.{lowest-some}
 use Rattle.model.proofs.Laws.Forest.{Depth, root, under_of}
 use Rattle.model.proofs.Laws.Updates.{at-over}
-use Rattle.model.proofs.Laws.WellFormed.{WellFormed, named, shape-client, shape-label, shape-make}
+use Rattle.model.proofs.Laws.WellFormed.{WellFormed, shape-client, shape-labelled, shape-make, shape-named}
 use Rattle.model.specs.Validity.{client_right, kind_right, label_by, label_right, name_by, name_right, shape, validity}
 use Rattle.model.proofs.Laws.Booleans.{and_left}
 use Rattle.model.specs.Records.{at, count, encode, gone, is_ambient, nested, parent_of, records}
@@ -20,8 +20,8 @@ use Rattle.model.specs.Refusals.{content, pass}
 use Rattle.model.specs.declared.Rec.{Rec}
 use Rattle.text_put.specs.Puts.{over}
 use Rattle.text_form.specs.Laws.Lines.{scan-nested, scan-render}
-use Rattle.text_form.specs.Laws.Nesting.{Nested, Right, byte-ambient, byte-high, byte-low, cons, kind-known, length-placed, nil, none-zero, walk-next, walk-placed}
-use Rattle.text_form.specs.Lines.{ambient_kind, kind_byte, render}
+use Rattle.text_form.specs.Laws.Nesting.{Nested, Right, byte-ambient, byte-high, byte-low, byte-nested, cons, kind-known, length-placed, nil, none-zero, walk-next, walk-placed}
+use Rattle.text_form.specs.Lines.{ambient_kind, kind_byte, nested_kind, render}
 use Rattle.text_form.specs.Reading.{bytes_of, length_told, lines_answer, none_above, placed, placed_from, read_after, read_answer, read_by, read_into, record_of, room_in, scan, scan_answer}
 use Rattle.text_form.specs.Writing.{Length, child_or, child_over, fits, is_child, line_at, next_from, over_if, text_of, told, told_after, walk, walk_from, write_after, write_answer}
 use Rattle.text_form.specs.declared.Line.{Line}
@@ -55,16 +55,16 @@ walk_end its n p d e = rw (e, walk_from)
 
 -- a record that is visited, as a line
 line-right : (its : List Rec) → WellFormed its → (v : Visit) → (at its v.number).kind ≢ 0 → Right (line_at its v)
-unfolding line_at is_ambient kind_right nested client_right
+unfolding line_at is_ambient kind_right label_right name_right nested client_right
 line-right its wf v z =
     let r = at its v.number in
-    let k : r.kind ≤ 4 = leb-true _ _ (shape-kind r (wf.shaped v.number)) in
+    let k : r.kind ≤ 5 = leb-true _ _ (shape-kind r (wf.shaped v.number)) in
     let x = kind-known r.kind z k in
     record {
       kind = x.0;
       known = x.1;
-      label = rw (x.2) (shape-label r (wf.shaped v.number) (rw (le-leb 1 r.kind (omega arith), le-leb r.kind 4 k)));
-      name = omega (arith, named wf v.number);
+      label = rw (x.2, x.3) (rw (le-leb 1 r.kind (omega arith)) at (shape-labelled r (wf.shaped v.number)));
+      name = rw (x.3) (rw (le-leb 1 r.kind (omega arith)) at (shape-named r (wf.shaped v.number)));
       client = leb-true _ _ (shape-client _ (wf.shaped v.number));
     }
 
@@ -108,9 +108,9 @@ record-shape l p r =
     let k = kind_byte l.kind in
     let q = ap kind_byte r.known in
     let a : leb 1 k ≡ true = le-leb 1 k (omega (arith, q, byte-low r.kind)) in
-    let b : leb k 4 ≡ true = le-leb k 4 (omega (arith, q, byte-high r.kind)) in
+    let b : leb k 4 ≡ nested_kind r.kind = ap (λ x. leb x 4) q ∙ byte-nested r.kind in
     let c : eqb k 1 ≡ ambient_kind r.kind = ap (λ x. eqb x 1) q ∙ byte-ambient r.kind in
-    shape-make _ b (rw (a, b, c) r.label) (rw (a, b) (le-leb l.name 63 r.name)) (le-leb l.client 999 r.client)
+    shape-make _ (le-leb k 5 (omega (arith, q, byte-high r.kind))) (rw (a, b, c) r.label) (rw (a, b) r.name) (le-leb l.client 999 r.client)
 
 placed-shape : (k d : ℕ) (above : List ℕ) (ls : List Line) → Nested d ls → (i : ℕ) → i < length ls → (shape (get_or (placed_from k above ls) i gone) ≡ true) × ((get_or (placed_from k above ls) i gone).kind ≢ 0)
 unfolding placed_from record_of

@@ -4,18 +4,18 @@ use Rattle.std.proofs.Common.{eq-eqb, le-leb, leb-true, length-append, length-dr
 use Rattle.std.proofs.lemmas.List.{length-replicate}
 use Rattle.std.proofs.Math.Seq.{drop-append_seam}
 use Rattle.std.specs.Prelude.{None, Some, Result, Ok, Err}
-use Rattle.model.proofs.Laws.WellFormed.{label-in}
+use Rattle.model.proofs.Laws.WellFormed.{label-by, name-by}
 use Rattle.model.specs.Listing.{digits_in, field}
 use Rattle.model.specs.Records.{byte}
 use Rattle.model.specs.declared.Capability.TheVariants.{In as cap-in, Open as cap-open, Out as cap-out}
-use Rattle.model.specs.Validity.{label_in}
+use Rattle.model.specs.Validity.{label_by, name_by}
 use Rattle.text_form.specs.Laws.Nesting.{Nested, Right, cons, nil}
 use Rattle.text_form.specs.Laws.Numerals.{demand-good, number-fine, space-no-digit}
 use Rattle.text_form.specs.Laws.Clients.{client-back, client-low, number-then}
-use Rattle.text_form.specs.Lines.{ambient_kind, ambient_word, client_bytes, entry, in_word, indent, kind_word, line_bytes, line_word, open_word, out_word, render}
+use Rattle.text_form.specs.Lines.{ambient_kind, ambient_word, client_bytes, entry, in_word, indent, kind_word, line_bytes, line_word, nested_kind, open_word, out_word, render, replication_word}
 use Rattle.text_form.specs.Reading.{before, client_read, cause_at, demand, ended, kinds, labelled, leading, line_read, mark_bytes, named, number_read, scan_from, served, spaces, starts, unworded, with_number, worded, worded_by}
 use Rattle.text_form.specs.declared.Kind.{Kind}
-use Rattle.text_form.specs.declared.Kind.TheVariants.{Acts, Ambient}
+use Rattle.text_form.specs.declared.Kind.TheVariants.{Acts, Ambient, Replication}
 use Rattle.text_form.specs.declared.Line.{Line}
 use Rattle.text_form.specs.declared.LineRead.{LineRead}
 use Rattle.text_form.specs.declared.Cause.{Cause}
@@ -40,29 +40,31 @@ served-back l r s =
 named_back : (l : Line) (r : Right l) (s : List ℕ) → named l.depth r.kind l.label (32 ∷ name_bytes l s) ≡ Ok (record { line = l; left = length s })
 unfolding named demand with_number
 named_back l r s =
-    rw (number-then cause.NoName l.name l.client s (omega (arith, r.name)), with_number)
-    (rw (le-leb l.name 63 r.name, drop-append_seam (digits_in 5 l.name) (client_bytes l.client ++ (10 ∷ s))) (served-back l r s))
+    rw (number-then cause.NoName l.name l.client s (omega (arith, name-by _ _ r.name)), with_number)
+    (rw (r.name, drop-append_seam (digits_in 5 l.name) (client_bytes l.client ++ (10 ∷ s))) (served-back l r s))
 
 labelled-back : (l : Line) (r : Right l) (s : List ℕ) → labelled l.depth r.kind (digits_in 5 l.label ++ (32 ∷ name_bytes l s)) ≡ Ok (record { line = l; left = length s })
 unfolding labelled demand with_number
 labelled-back l r s =
-    rw (number-fine cause.NoLabel l.label 32 _ (omega (arith, label-in _ _ r.label)) space-no-digit, with_number)
+    rw (number-fine cause.NoLabel l.label 32 _ (omega (arith, label-by _ _ _ r.label)) space-no-digit, with_number)
     (rw (r.label, drop-append_seam (digits_in 5 l.label) (32 ∷ name_bytes l s))
     (named_back l r s))
 
 worded-back : (d : ℕ) (k : Kind) (s : List ℕ) → worded d (kind_word k ++ s) ≡ labelled d k s
-unfolding worded worded_by kinds kind_word starts ambient_word in_word out_word open_word
+unfolding worded worded_by kinds kind_word starts ambient_word in_word out_word open_word replication_word
 worded-back d Ambient s = refl
 worded-back d (Acts cap-in) s = refl
 worded-back d (Acts cap-out) s = refl
 worded-back d (Acts cap-open) s = refl
+worded-back d Replication s = refl
 
 word-solid : (k : Kind) (s : List ℕ) → spaces (kind_word k ++ s) ≡ 0
-unfolding leading kind_word ambient_word in_word out_word open_word
+unfolding leading kind_word ambient_word in_word out_word open_word replication_word
 word-solid Ambient s = refl
 word-solid (Acts cap-in) s = refl
 word-solid (Acts cap-out) s = refl
 word-solid (Acts cap-open) s = refl
+word-solid Replication s = refl
 
 spaces-after : (n : ℕ) (s : List ℕ) → spaces s ≡ 0 → spaces (replicate n 32 ++ s) ≡ n
 unfolding leading
@@ -89,7 +91,7 @@ line-back d l h r s =
 
 -- what is no line is no end
 empty-bad : (d : ℕ) → line_read d [] ≡ Err cause.UnknownKind
-unfolding line_read demand leading worded worded_by kinds kind_word unworded cause_at starts ambient_word in_word out_word open_word mark_bytes
+unfolding line_read demand leading worded worded_by kinds kind_word unworded cause_at starts ambient_word in_word out_word open_word replication_word mark_bytes
 empty-bad d = rw (le-leb 0 d (omega arith))
 
 -- a line, and then the others
@@ -155,27 +157,27 @@ served-good d k label name s {l} {left} e =
       fewer = omega (arith, g.1, length-drop n.width s);
     }
 
-pub named-good : (d : ℕ) (k : Kind) (label : ℕ) (s : List ℕ) {l : Line} {left : ℕ} → named d k label s ≡ Ok (record { line = l; left = left }) → (name : ℕ) × (name ≤ 63) × Served d k label name s l left
+pub named-good : (d : ℕ) (k : Kind) (label : ℕ) (s : List ℕ) {l : Line} {left : ℕ} → named d k label s ≡ Ok (record { line = l; left = left }) → (name : ℕ) × (name_by (nested_kind k) name ≡ true) × Served d k label name s l left
 unfolding named
 named-good d k label s {l} {left} e =
     let a = (demand-good (eqb (byte s 0) 32) _ _ e).1 in
     let b = number-good (number_read cause.NoName (drop 1 s)) _ a in
     let n = b.0 in
-    let c = demand-good (leb n.value 63) cause.WrongName _ b.2 in
+    let c = demand-good (name_by (nested_kind k) n.value) cause.WrongName _ b.2 in
     let g = served-good d k label n.value _ c.1 in
-    (n.value, leb-true n.value 63 c.0, record { depth = g.depth; kind = g.kind; label = g.label; name = g.name; client = g.client; fewer = omega (arith, g.fewer, length-drop n.width (drop 1 s), length-drop 1 s) })
+    (n.value, c.0, record { depth = g.depth; kind = g.kind; label = g.label; name = g.name; client = g.client; fewer = omega (arith, g.fewer, length-drop n.width (drop 1 s), length-drop 1 s) })
 
 pub labelled-good : (d : ℕ) (k : Kind) (s : List ℕ) {l : Line} {left : ℕ} → labelled d k s ≡ Ok (record { line = l; left = left }) → Got d s l left
 unfolding labelled
 labelled-good d k s {l} {left} e =
     let a = number-good (number_read cause.NoLabel s) _ e in
     let n = a.0 in
-    let b = demand-good (label_in (ambient_kind k) n.value) cause.WrongLabel _ a.2 in
+    let b = demand-good (label_by (nested_kind k) (ambient_kind k) n.value) cause.WrongLabel _ a.2 in
     let h = named-good d k n.value _ b.1 in
     let g = h.2 in
     record {
       deep = omega (arith, g.depth);
-      right = record { kind = k; known = g.kind; label = rw (g.label) b.0; name = omega (arith, g.name, h.1); client = g.client };
+      right = record { kind = k; known = g.kind; label = rw (g.label) b.0; name = rw (g.name) h.1; client = g.client };
       fewer = omega (arith, g.fewer, length-drop n.width s);
     }
 

@@ -1,7 +1,7 @@
 -- Lines that are placed and walked again are the same lines.
 use Prim.Native.Nat.{◌+◌, ◌-◌, ◌<◌, ◌≤◌, suc, zero, ℕ}
 use Rattle.std.proofs.Common.{eq-eqb, ne_eqb, inl, inr, ◌∙◌}
-use Rattle.std.specs.Prelude.{eqb, get_or, set, false, not, true, List, [], ◌∷◌, map, ◌≢◌, ◌⊎◌, ◌≡◌, refl}
+use Rattle.std.specs.Prelude.{eqb, leb, get_or, set, false, not, true, List, [], ◌∷◌, map, ◌≢◌, ◌⊎◌, ◌≡◌, refl}
 use Rattle.std.specs.Prelude.{Option, None, Some}
 use Rattle.std.proofs.Math.ListN.{length, length-set}
 use Rattle.std.proofs.lemmas.List.{length-replicate}
@@ -15,30 +15,32 @@ use Rattle.model.proofs.Laws.Finite.{lowest-make, lowest-nothing}
 use Rattle.model.specs.Records.{at, capability, gone, parent_of}
 use Rattle.model.specs.declared.Capability.TheVariants.{In as cap-in, Open as cap-open, Out as cap-out}
 use Rattle.model.specs.Scripts.{kind_of}
-use Rattle.model.specs.Validity.{label_in}
+use Rattle.model.specs.Validity.{label_by, name_by}
 use Rattle.model.specs.declared.Rec.{Rec}
-use Rattle.text_form.specs.Lines.{acting, ambient_kind, kind_at, kind_byte}
+use Rattle.text_form.specs.Lines.{acting, ambient_kind, kind_at, kind_byte, nested_kind}
 use Rattle.text_form.specs.Reading.{none_above, placed, placed_from, record_of}
 use Rattle.text_form.specs.Writing.{child_or, child_over, is_child, line_at, next_from, walk, walk_from}
 use Rattle.text_form.specs.declared.Kind.{Kind}
-use Rattle.text_form.specs.declared.Kind.TheVariants.{Acts, Ambient}
+use Rattle.text_form.specs.declared.Kind.TheVariants.{Acts, Ambient, Replication}
 use Rattle.text_form.specs.declared.Line.{Line}
 use Rattle.text_form.specs.declared.Visit.{Visit}
 
--- the number of a kind is 1 to 4, that of an ambient alone is 1, and it gives the kind back
+-- the number of a kind is 1 to 5, that of an ambient alone is 1, that of a replication alone is 5, and it gives the kind back
 pub byte-low : (k : Kind) → 1 ≤ kind_byte (Some k)
 unfolding kind_byte kind_of
 byte-low Ambient = omega arith
 byte-low (Acts cap-in) = omega arith
 byte-low (Acts cap-out) = omega arith
 byte-low (Acts cap-open) = omega arith
+byte-low Replication = omega arith
 
-pub byte-high : (k : Kind) → kind_byte (Some k) ≤ 4
+pub byte-high : (k : Kind) → kind_byte (Some k) ≤ 5
 unfolding kind_byte kind_of
 byte-high Ambient = omega arith
 byte-high (Acts cap-in) = omega arith
 byte-high (Acts cap-out) = omega arith
 byte-high (Acts cap-open) = omega arith
+byte-high Replication = omega arith
 
 pub byte-ambient : (k : Kind) → eqb (kind_byte (Some k)) 1 ≡ ambient_kind k
 unfolding kind_byte kind_of ambient_kind
@@ -46,6 +48,15 @@ byte-ambient Ambient = refl
 byte-ambient (Acts cap-in) = refl
 byte-ambient (Acts cap-out) = refl
 byte-ambient (Acts cap-open) = refl
+byte-ambient Replication = refl
+
+pub byte-nested : (k : Kind) → leb (kind_byte (Some k)) 4 ≡ nested_kind k
+unfolding kind_byte kind_of nested_kind
+byte-nested Ambient = refl
+byte-nested (Acts cap-in) = refl
+byte-nested (Acts cap-out) = refl
+byte-nested (Acts cap-open) = refl
+byte-nested Replication = refl
 
 byte-back : (k : Option Kind) → kind_at (kind_byte k) ≡ k
 unfolding kind_byte kind_of kind_at acting capability
@@ -54,23 +65,25 @@ byte-back (Some Ambient) = refl
 byte-back (Some (Acts cap-in)) = refl
 byte-back (Some (Acts cap-out)) = refl
 byte-back (Some (Acts cap-open)) = refl
+byte-back (Some Replication) = refl
 
--- the other way round: what a number from 1 to 4 stands for
-pub kind-known : (n : ℕ) → n ≢ 0 → n ≤ 4 → (k : Kind) × (kind_at n ≡ Some k) × (ambient_kind k ≡ eqb n 1)
-unfolding kind_at acting capability ambient_kind
+-- the other way round: what a number from 1 to 5 stands for
+pub kind-known : (n : ℕ) → n ≢ 0 → n ≤ 5 → (k : Kind) × (kind_at n ≡ Some k) × (ambient_kind k ≡ eqb n 1) × (nested_kind k ≡ leb n 4)
+unfolding kind_at acting capability ambient_kind nested_kind
 kind-known zero z h = absurd (z refl)
-kind-known (suc zero) z h = (Ambient, refl, refl)
-kind-known (suc (suc zero)) z h = (Acts cap-in, refl, refl)
-kind-known (suc (suc (suc zero))) z h = (Acts cap-out, refl, refl)
-kind-known (suc (suc (suc (suc zero)))) z h = (Acts cap-open, refl, refl)
-kind-known (suc (suc (suc (suc (suc n))))) z h = absurd (omega arith)
+kind-known (suc zero) z h = (Ambient, refl, refl, refl)
+kind-known (suc (suc zero)) z h = (Acts cap-in, refl, refl, refl)
+kind-known (suc (suc (suc zero))) z h = (Acts cap-out, refl, refl, refl)
+kind-known (suc (suc (suc (suc zero)))) z h = (Acts cap-open, refl, refl, refl)
+kind-known (suc (suc (suc (suc (suc zero))))) z h = (Replication, refl, refl, refl)
+kind-known (suc (suc (suc (suc (suc (suc n)))))) z h = absurd (omega arith)
 
 -- a line whose kind, label and name fit together, and whose client is in range
 pub record Right (l : Line) : Type 0 where
   pub kind : Kind
   pub known : l.kind ≡ Some kind
-  pub label : label_in (ambient_kind kind) l.label ≡ true
-  pub name : l.name ≤ 63
+  pub label : label_by (nested_kind kind) (ambient_kind kind) l.label ≡ true
+  pub name : name_by (nested_kind kind) l.name ≡ true
   pub client : l.client ≤ 999
 
 -- each line is indented by at most one step more than the one before, and the first by at most d

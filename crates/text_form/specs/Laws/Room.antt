@@ -2,19 +2,20 @@
 -- most 18 bytes after the indentation; the listing has at most 13 more in a line. So a program that lends enough always has
 -- its text, which is empty where it is refused.
 use Rattle.std.specs.Prelude.{◌*◌, ◌+◌, ◌≤◌, suc, zero, ℕ, leb, Bool, false, true, List, [], ◌∷◌, map}
-use borrow.Author.Tests.{le-leb, leb-true}
+use borrow.Author.Tests.{eqb-true, le-leb, leb-true}
 use Rattle.std.proofs.Math.ListN.{length, length-map}
 use Rattle.std.proofs.Common.{length-append, ◌∙◌, arith}
 use Rattle.std.specs.Prelude.{Option, None, Some, Result, Ok, Err}
 use Rattle.std.proofs.Math.Path.{◌≡◌, ap, refl, sym}
 use Rattle.model.specs.Climbing.{hidden}
 use Rattle.model.proofs.Laws.Booleans.{and_right}
+use Rattle.model.proofs.Laws.WellFormed.{name-by}
 use Rattle.model.specs.Listing.{digits_in, field}
 use Rattle.model.specs.Numbers.{number_of}
 use Rattle.model.specs.Records.{records}
 use Rattle.model.specs.declared.Capability.TheVariants.{In as cap-in, Open as cap-open, Out as cap-out}
 use Rattle.model.specs.Refusals.{Check, content, pass, refuse}
-use Rattle.model.specs.Validity.{label_in, validity}
+use Rattle.model.specs.Validity.{label_by, label_in, validity}
 use Rattle.model.specs.declared.Rec.{Rec}
 use Rattle.model.specs.declared.Refusal.{Refusal}
 use Rattle.text_put.specs.Puts.{over}
@@ -26,11 +27,11 @@ use Rattle.text_form.specs.Laws.Lines.{scan-nested}
 use Rattle.text_form.specs.Laws.Nesting.{Nested, Right, cons, nil}
 use Rattle.text_form.specs.Laws.Putting.{entry_length, fields-length}
 use Rattle.text_form.specs.Laws.Walking.{mark-short}
-use Rattle.text_form.specs.Lines.{ambient_kind, ambient_word, entry, in_word, kind_word, line_bytes, line_word, open_word, out_word, render}
+use Rattle.text_form.specs.Lines.{ambient_kind, ambient_word, entry, in_word, kind_word, line_bytes, line_word, nested_kind, open_word, out_word, render, replication_word}
 use Rattle.text_form.specs.Reading.{length_told, lines_answer, longest, read_answer, read_by, room_in, scan, scan_answer, scan_from}
 use Rattle.text_form.specs.Writing.{Length, NoRoom, Refused, fits, line_at, lines_of, list_line, list_of, mark, no_text, over_if, shown_text, text_of, text_or, told, told_after, walk, written_as}
 use Rattle.text_form.specs.declared.Kind.{Kind}
-use Rattle.text_form.specs.declared.Kind.TheVariants.{Acts, Ambient}
+use Rattle.text_form.specs.declared.Kind.TheVariants.{Acts, Ambient, Replication}
 use Rattle.text_form.specs.declared.Line.{Line}
 use Rattle.text_form.specs.declared.Cause.{Cause}
 use Rattle.text_form.specs.declared.Fault.{Fault}
@@ -50,17 +51,18 @@ budget-more (suc n) zero d e h k = absurd (omega arith)
 budget-more (suc n) (suc m) d e h k = omega (arith, budget-more n m (suc d) (suc e) (omega arith) (omega arith))
 
 -- the word and the label together
-word-label : (k : Kind) (l : ℕ) → label_in (ambient_kind k) l ≡ true → length (kind_word k) + length (digits_in 5 l) ≤ 10
-unfolding kind_word ambient_word in_word out_word open_word ambient_kind label_in
+word-label : (k : Kind) (l : ℕ) → label_by (nested_kind k) (ambient_kind k) l ≡ true → length (kind_word k) + length (digits_in 5 l) ≤ 10
+unfolding kind_word ambient_word in_word out_word open_word replication_word ambient_kind nested_kind label_by label_in
 word-label Ambient l h = omega (arith, digits-two l (omega (arith, leb-true l 63 (and_right (leb 1 l) _ h))))
 word-label (Acts cap-in) l h = omega (arith, digits-few 5 l)
 word-label (Acts cap-out) l h = omega (arith, digits-few 5 l)
 word-label (Acts cap-open) l h = omega (arith, digits-few 5 l)
+word-label Replication l h = omega (arith, digits-two l (omega (arith, eqb-true l 0 h)))
 
 line-short : (l : Line) → Right l → length (line_bytes l) ≤ 2 * l.depth + 18
 unfolding line_bytes line_word
 line-short l r =
-    omega (arith, entry_length [] [] l, fields-length l, ap (λ x. length (line_word x)) r.known, word-label r.kind l.label r.label, digits-two l.name (omega (arith, r.name)), client-short l.client r.client)
+    omega (arith, entry_length [] [] l, fields-length l, ap (λ x. length (line_word x)) r.known, word-label r.kind l.label r.label, digits-two l.name (omega (arith, name-by _ _ r.name)), client-short l.client r.client)
 
 render-short : {d : ℕ} {ls : List Line} → Nested d ls → length (render ls) ≤ budget (length ls) d
 unfolding render budget

@@ -25,11 +25,11 @@ use Rattle.text_form.specs.Laws.Identity.{next-visited, walk_end}
 use Rattle.text_form.specs.Laws.Nesting.{walk-next}
 use Rattle.text_form.specs.Laws.Clients.{client-few}
 use Rattle.text_form.specs.Laws.Putting.{entry_length, fields-length}
-use Rattle.text_form.specs.Lines.{ambient_word, entry, hidden_word, in_word, kind_at, kind_word, line_bytes, line_word, open_word, out_word, render}
+use Rattle.text_form.specs.Lines.{ambient_word, entry, hidden_word, in_word, kind_at, kind_word, line_bytes, line_word, open_word, out_word, render, replication_word}
 use Rattle.text_form.specs.Parts.{Whole, Written, front, numbered, visit_line}
 use Rattle.text_form.specs.Writing.{Length, NoRoom, Refused, TextWritten, child_or, child_over, fits, is_child, line_at, lines_of, mark, next_from, over_if, text_of, told, told_after, walk, walk_from, write_after, write_answer}
 use Rattle.text_form.specs.declared.Kind.{Kind}
-use Rattle.text_form.specs.declared.Kind.TheVariants.{Acts, Ambient}
+use Rattle.text_form.specs.declared.Kind.TheVariants.{Acts, Ambient, Replication}
 use Rattle.text_form.specs.declared.Visit.{Visit}
 
 -- record i as it is read
@@ -119,12 +119,13 @@ walk_none its left p d l = let u : left ≡ 0 = omega arith in rw u
 
 -- no line is long
 word-short : (k : Option Kind) → length (line_word k) ≤ 8
-unfolding line_word kind_word ambient_word in_word out_word open_word
+unfolding line_word kind_word ambient_word in_word out_word open_word replication_word
 word-short None = omega arith
 word-short (Some Ambient) = omega arith
 word-short (Some (Acts cap-in)) = omega arith
 word-short (Some (Acts cap-out)) = omega arith
 word-short (Some (Acts cap-open)) = omega arith
+word-short (Some Replication) = omega arith
 
 pub mark-short : (b : Bool) → length (mark b) ≤ 7
 unfolding mark hidden_word

@@ -83,7 +83,7 @@ fn space(byte: u8) -> bool {
 /// A byte that could stand in a text, or any.
 fn drawn_byte(random: &mut Random) -> u8 {
     if random.chance(80) {
-        random.pick(b"aeimnoptubAI 0123456789\n\r\t-+._#\0")
+        random.pick(b"aceimnoprtubAI 0123456789\n\r\t-+._#\0")
     } else {
         random.byte()
     }

@@ -4,8 +4,13 @@
 use simulator::record::{Itinerary, Kind, Record, LAST_CLIENT, MOST_RECORDS};
 use std::str::FromStr;
 
-const WORDS: [(&str, Kind); 4] =
-    [("ambient", Kind::Ambient), ("in", Kind::In), ("out", Kind::Out), ("open", Kind::Open)];
+const WORDS: [(&str, Kind); 5] = [
+    ("ambient", Kind::Ambient),
+    ("in", Kind::In),
+    ("out", Kind::Out),
+    ("open", Kind::Open),
+    ("copier", Kind::Copier),
+];
 
 /// The length of the longest text that can be read: 1,024 lines, each a step deeper, of ambients with two digits twice
 /// and three for the client.
@@ -45,8 +50,7 @@ fn read_line(line: &[u8]) -> Option<(usize, Record)> {
     };
     let kind = WORDS.iter().find(|(known, _)| *known == word)?.1;
     let (label, name) = (read_number(label)?, read_number(name)?);
-    let labels = if kind == Kind::Ambient { 1..=63 } else { 64..=127 };
-    let right = spaces % 2 == 0 && labels.contains(&label) && name <= 63;
+    let right = spaces % 2 == 0 && kind.labels().contains(&label) && kind.names().contains(&name);
     right.then_some((spaces / 2, Record { kind, label, name, parent: 0, client }))
 }
 
