@@ -18,7 +18,7 @@ use Rattle.model.specs.Validity.{validity}
 use Rattle.model.specs.declared.Above.{Above}
 use Rattle.model.specs.declared.Rec.{Rec}
 use Rattle.ways.specs.Laws.{noted-none, noted-then, noting-root}
-use Rattle.ways.specs.Valid.{valid-parented}
+use Rattle.ways.specs.Valid.{valid-viewable}
 use Rattle.ways.specs.Ways.{Noted, Noting}
 
 -- ---- what a record makes
@@ -111,7 +111,7 @@ module _ {s : List ℕ} {notes : List (Option Above)} (n : Nearests s notes) (j 
 
 -- room for the notes of all numbers, with the environment's
 pub notes-root : (s policy : List ℕ) → validity s ≡ pass → Noting (enclosing policy) s (set (replicate 1025 None) 0 (Some (record { label = 0; boundary = 0 })))
-notes-root s policy v = noting-root (enclosing policy) (valid-parented s v)
+notes-root s policy v = noting-root (enclosing policy) (valid-viewable s v)
 
 -- ---- one record
 

@@ -132,7 +132,10 @@ pub fn read_all(it: &[u8], n: u16) -> Result<bool, Refusal>
 {
     let mut ordered = true;
     for i in 0..n {
-        let r = read_record(it, i + 1)?;
+        let read = read_record(it, i + 1);
+        let Ok(r) = read else {
+            return read.map(|_| ordered);
+        };
         ordered = (r.parent <= i) & ordered;
     }
     Ok(ordered)

@@ -1,9 +1,11 @@
 // The seed of the least table: what the itinerary and the policy ask for by themselves.
 #![tactic(auto)]
 
-ghost use Rattle.std.specs.Prelude.{◌≡◌, ℕ, ◌+◌, ◌/◌, ◌%◌, ◌^◌, ◌<◌};
+ghost use Rattle.std.specs.Prelude.{◌≡◌, ℕ, ◌/◌, ◌%◌, ◌^◌, ◌<◌, length};
 ghost use Rattle.model.specs.Records.{count, records};
+ghost use Rattle.model.specs.Refusals.{pass};
 ghost use Rattle.model.specs.Tables.{bits, is_high, place_s};
+ghost use Rattle.model.specs.Validity.{validity};
 ghost use Rattle.table_words.specs.BitSets.{or_at};
 ghost use Rattle.table_partners.specs.Facts.{bearing, name_cell, nesting_cell, standing};
 ghost use Rattle.table_seed.specs.Seeds.{CellsSet, Seeded};
@@ -12,22 +14,23 @@ use records::Itinerary;
 use tables::{HIGH, Policy, Table};
 
 // Sets bit j.
-fn set_bit(table: &mut Table, j: usize)
-    requires { j < 12352 }
+fn set_bit(table: &mut [u8], j: usize)
+    requires { j / 8 < length table.old }
     ensures { table.new ≡ or_at table.old (j / 8) (2 ^ (j % 8)) }
 {
     table[j / 8] |= 1u8 << (j % 8);
 }
 
-// Sets the bits of H that the itinerary asks for.
-fn fill_names(it: &Itinerary, table: &mut Table)
-    ensures { CellsSet (bearing (records it.now)) (λ x. 8192 + name_cell (records it.now) x) (count it.now) (bits table.old) (bits table.new) }
+// Sets the bits of H that the itinerary asks for, in the names part of the table.
+fn fill_names(it: &Itinerary, names: &mut [u8])
+    requires { length names.old ≡ 512 }
+    ensures valid { validity it.now ≡ pass }
+    ensures cells { CellsSet (bearing (records it.now)) (name_cell (records it.now)) (count it.now) (bits names.old) (bits names.new) }
 {
     for i in 0..it.count() {
         let r = records::record_at(it.bytes, i + 1);
         if r.is_ambient() {
-            let cell = 64 * (r.label as usize) + (r.name as usize);
-            set_bit(table, tables::NAMES + cell);
+            set_bit(names, 64 * (r.label as usize) + (r.name as usize));
         }
     }
 }
@@ -64,7 +67,7 @@ pub fn seed(it: &Itinerary, policy: &Policy, table: &mut Table)
     ensures { Seeded (records it.now) policy.now (bits table.new) }
 {
     table.fill(0);
-    fill_names(it, table);
+    fill_names(it, &mut table[1024..1536]);
     fill_high(policy, table);
     fill_nesting(it, policy, table);
 }

@@ -17,7 +17,7 @@ use Rattle.model.specs.declared.Rec.{Rec}
 use Rattle.model.proofs.Laws.WellFormed.{amb-nested}
 use Rattle.record_checks.specs.Reading.{in_order}
 use Rattle.records.specs.Climbs.{ambient-is}
-use Rattle.ways.specs.Ways.{Finding, Lost, Parented}
+use Rattle.ways.specs.Ways.{Finding, Lost, Parented, Viewable}
 
 -- the checks of a validation in order
 module _ (s : List ℕ) where
@@ -64,7 +64,10 @@ labels-in s m h j k = go (ℕ_discrete j 0) (dec_le j (count s))
     go (no e) (no l) = not-gone (at-over (records s) j (omega (arith, length-records s)))
 
 pub parented : (s : List ℕ) → size_right s ≡ true → each_of (record_check s) 1 (count s) ≡ pass → Parented s
-parented s e h = record { whole = size-whole s e; few = size-le s e; parents = parents-in s (size-whole s e) h; labels = labels-in s (size-whole s e) h }
+parented s e h = record { whole = size-whole s e; few = size-le s e; parents = parents-in s (size-whole s e) h }
+
+pub viewable : (s : List ℕ) → size_right s ≡ true → each_of (record_check s) 1 (count s) ≡ pass → Viewable s
+viewable s e h = record { parented = parented s e h; labels = labels-in s (size-whole s e) h }
 
 -- whether something is found at record i, by as many climbs as there are records, is whether it reaches the environment
 pub found-reaches : (s : List ℕ) → Parented s → (i : ℕ) → i ≤ count s → {A : Type 0} {v : View A} (o : Option A) → ((x : A) → o ≡ Some x → Finding v s i x) → IfNone o (Lost s (count s) i) → is_some o ≡ reaches (records s) i

@@ -8,7 +8,7 @@ ghost use Rattle.model.specs.Refusals.{each_of};
 ghost use Rattle.model.specs.Validity.{climb_check, form, validity};
 ghost use Rattle.validity.specs.Arriving.{arriving};
 ghost use Rattle.record_checks.specs.Reading.{in_order};
-ghost use Rattle.ways.specs.Ways.{Noting, Parented};
+ghost use Rattle.ways.specs.Ways.{Noting, Viewable};
 
 use model::{Cause, Refusal};
 use records::Itinerary;
@@ -41,7 +41,7 @@ fn climb_all(it: &[u8], notes: &mut [Option<()>], n: u16) -> Result<(), Refusal>
 
 // Refusal 6 of the n records. Where they are in order all reach the environment, and nothing is climbed.
 fn climbs(it: &[u8], n: u16, ordered: bool) -> Result<(), Refusal>
-    requires parented { Parented it.now }
+    requires viewable { Viewable it.now }
     requires counted { n ≡ count it.now }
     requires order { ordered ≡ in_order it.now n }
     ensures { check_as result ≡ each_of (climb_check (records it.now)) 1 n }

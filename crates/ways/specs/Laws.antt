@@ -9,7 +9,7 @@ use Rattle.model.proofs.Laws.Forest.{Depth, above, depth_le, root, under_of}
 use Rattle.model.proofs.Laws.Views.{from_more, from_on, from-top}
 use Rattle.model.specs.Records.{at, count, decode, parent_of, records}
 use Rattle.model.specs.declared.Rec.{Rec}
-use Rattle.ways.specs.Ways.{Finding, Leads, Lost, Noted, Noting, Parented, Passable, Starts}
+use Rattle.ways.specs.Ways.{Bounded, Finding, Leads, Lost, Noted, Noting, Parented, Passable, Starts, Viewable}
 use Rattle.ways.specs.declared.Way.{Way}
 
 -- one climb more, at the end
@@ -27,20 +27,13 @@ pub record Going (s : List ℕ) (i : ℕ) (numbers : List ℕ) (len top : ℕ) :
   pub above : top ≡ climb (parent_of (records s)) len i
   pub inside : top ≤ count s
 
-module _ {s : List ℕ} (c : Parented s) where
+module _ {s : List ℕ} (c : Bounded s) where
   -- the parent read is the number above
   pub parent-read : (j q : ℕ) → q ≡ (decode s j).parent → q ≡ parent_of (records s) j
   parent-read j q e = e ∙ sym (ap (λ r. r.parent) (at-whole s c.whole j))
 
   pub parent-inside : (j q : ℕ) → q ≡ (decode s j).parent → q ≤ count s
   parent-inside j q e = rw (parent-read j q e) (c.parents j)
-
-  pub label-few : (j : ℕ) (r : Rec) → r ≡ decode s j → r.kind ≡ 1 → r.label < 64
-  label-few j r e h = rw e (c.labels j (sym (ap (λ x. x.kind) e) ∙ h))
-
-  pub few-records : count s ≤ 1024
-  unfolding count
-  few-records = omega (arith, c.few)
 
   pub going_start : {i : ℕ} {w : Way} → Starts s i w → Going s i w.numbers w.len w.top
   going_start {i} {w} b = record {
@@ -82,6 +75,17 @@ module _ {s : List ℕ} (c : Parented s) where
           let w : climb (parent_of (records s)) k i ≡ top = ap (λ (x : ℕ). climb (parent_of (records s)) x i) y ∙ sym g.above in
           (rw w o, rw w g.inside)
       own k h (no n) = g.records-all k (omega (arith, n))
+
+module _ {s : List ℕ} (c : Parented s) where
+  pub bounded : Bounded s
+  bounded = record { whole = c.whole; parents = c.parents }
+
+  pub few-records : count s ≤ 1024
+  unfolding count
+  few-records = omega (arith, c.few)
+
+pub label-few : {s : List ℕ} → Viewable s → (j : ℕ) (r : Rec) → r ≡ decode s j → r.kind ≡ 1 → r.label < 64
+label-few c j r e h = rw e (c.labels j (sym (ap (λ x. x.kind) e) ∙ h))
 
 -- a note that is read as none is none
 pub no-note : {A : Type 0} {s : List ℕ} {notes : List (Option A)} → Passable s notes → (top : ℕ) → top ≤ count s → (o : Option A) → o ≡ get_or notes top o → is_some o ≡ false → get_or notes top None ≡ None
@@ -170,7 +174,7 @@ module _ {A : Type 0} {v : View A} {s : List ℕ} where
 
     pub note-more : Noted v s notes (set notes j (Some x))
     note-more = record {
-      noting = record { passable = record { parented = n.passable.parented; room = simp length-set n.passable.room; root = note-stays 0 n.passable.root }; told = λ k y m h. go k y m h (ℕ_discrete k j) };
+      noting = record { viewable = n.viewable; passable = record { bounded = n.passable.bounded; room = simp length-set n.passable.room; root = note-stays 0 n.passable.root }; told = λ k y m h. go k y m h (ℕ_discrete k j) };
       stays = note-stays;
       past = λ k m. note-other k (λ q. omega (arith, q, m, l));
     }
@@ -212,7 +216,7 @@ module _ {A : Type 0} {v : View A} {s : List ℕ} {notes₀ : List (Option A)} {
         let q : j ≡ climb (parent_of (records s)) (k - 1) i = g.at (k - 1) (omega (arith, b.most)) in
         let u : suc (k - 1) ≡ k = omega arith in
         let above : climb (parent_of (records s)) k i ≡ parent_of (records s) j = ap (λ (n : ℕ). climb (parent_of (records s)) n i) (sym u) ∙ climb-end (parent_of (records s)) (k - 1) i ∙ ap (parent_of (records s)) (sym q) in
-        let value : Finding v s j x = rw f (finding-next v b.noted.noting.passable.parented j back-record r e _ above b.is) in
+        let value : Finding v s j x = rw f (finding-next v b.noted.noting.viewable.parented j back-record r e _ above b.is) in
         record {
           most = omega (arith, b.most);
           long = simp length-set b.long;
@@ -225,17 +229,18 @@ module _ {A : Type 0} {v : View A} {s : List ℕ} {notes₀ : List (Option A)} {
   back_end {notes} {found} b e = (b.noted, rw e at (b.done (omega (arith, g.some, e))))
 
 -- before the first climb the environment alone has a note
-pub noting-root : {A : Type 0} (v : View A) {s : List ℕ} → Parented s → Noting v s (set (replicate 1025 None) 0 (Some v.top))
+pub noting-root : {A : Type 0} (v : View A) {s : List ℕ} → Viewable s → Noting v s (set (replicate 1025 None) 0 (Some v.top))
 noting-root {A} v {s} c = record {
-  passable = record { parented = c; room = simp length-set (rw length-replicate (omega (arith, few-records c))); root = λ e. let u : ◌≡◌ {A = Option A} (Some v.top) None = e in cc };
+  viewable = c;
+  passable = record { bounded = bounded c.parented; room = simp length-set (rw length-replicate (omega (arith, few-records c.parented))); root = λ e. let u : ◌≡◌ {A = Option A} (Some v.top) None = e in cc };
   told = λ j x l e. go j x l e (ℕ_discrete j 0);
 }
   where
     go : (j : ℕ) (x : A) → j ≤ count s → get_or (set (replicate {A = Option A} 1025 None) 0 (Some v.top)) j None ≡ Some x → Dec (j ≡ 0) → Finding v s j x
-    go j x l e (yes q) = let h : ◌≡◌ {A = Option A} (Some v.top) (Some x) = rw q at e in let u : v.top ≡ x = cc in rw (q, ← u) (finding-root v c)
+    go j x l e (yes q) = let h : ◌≡◌ {A = Option A} (Some v.top) (Some x) = rw q at e in let u : v.top ≡ x = cc in rw (q, ← u) (finding-root v c.parented)
     go j x l e (no q) =
         let n : List (Option A) = replicate 1025 None in
-        let h : ◌≡◌ {A = Option A} None (Some x) = sym (get_or-replicate {A = Option A} 1025 j None None (omega (arith, l, few-records c))) ∙ sym (get_or-set_other n 0 j (Some v.top) None q) ∙ e in cc
+        let h : ◌≡◌ {A = Option A} None (Some x) = sym (get_or-replicate {A = Option A} 1025 j None None (omega (arith, l, few-records c.parented))) ∙ sym (get_or-set_other n 0 j (Some v.top) None q) ∙ e in cc
 
 -- what is found is what the view finds there
 pub found-is : {A : Type 0} {v : View A} {s : List ℕ} {notes₀ notes : List (Option A)} → Noted v s notes₀ notes → (i : ℕ) → i ≤ count s → (o : Option A) → IfSome o (λ x. get_or notes i None ≡ Some x) → {x : A} → o ≡ Some x → Finding v s i x

@@ -9,8 +9,8 @@ use Rattle.model.specs.Refusals.{pass}
 use Rattle.model.specs.Validity.{validity}
 use Rattle.model.specs.declared.Rec.{Rec}
 use Rattle.records.specs.Climbs.{ambient-is}
-use Rattle.ways.specs.Laws.{parent-inside}
-use Rattle.ways.specs.Ways.{Lost, Parented}
+use Rattle.ways.specs.Laws.{bounded, parent-inside}
+use Rattle.ways.specs.Ways.{Lost, Parented, Viewable}
 
 module _ (s : List ℕ) (v : validity s ≡ pass) where
   wf : WellFormed (records s)
@@ -21,12 +21,17 @@ module _ (s : List ℕ) (v : validity s ≡ pass) where
     whole = valid-whole s v;
     few = valid-few s v;
     parents = λ j. omega (arith, parent_in wf j, length-records s);
+  }
+
+  pub valid-viewable : Viewable s
+  valid-viewable = record {
+    parented = valid-parented;
     labels = λ j k. let e = at-whole s (valid-whole s v) j in rw (← e) (small wf j (ap (λ x. is_ambient x) e ∙ ambient-is (decode s j) k));
   }
 
   -- the parent read is within the count
   pub parent-near : (i : ℕ) (r : Rec) → r ≡ decode s i → r.parent ≤ count s
-  parent-near i r e = parent-inside valid-parented i _ (ap (λ x. x.parent) e)
+  parent-near i r e = parent-inside (bounded valid-parented) i _ (ap (λ x. x.parent) e)
 
   -- as many climbs as there are records are enough
   pub never-lost : (i : ℕ) → i ≤ count s → Lost s (count s) i → ⊥

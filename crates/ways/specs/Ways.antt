@@ -5,16 +5,25 @@ use Rattle.model.proofs.Laws.Forest.{Depth}
 use Rattle.model.specs.Records.{count, decode, parent_of, records}
 use Rattle.ways.specs.declared.Way.{Way}
 
--- whole records, not too many, whose parents are within the count and whose ambients have a label that a policy knows
+-- whole records, not too many, whose parents are within the count
 pub record Parented (s : List ℕ) : Type 0 where
   pub whole : length s % 8 ≡ 0
   pub few : length s ≤ 8192
   pub parents : (j : ℕ) → parent_of (records s) j ≤ count s
+
+-- such records whose ambients have a label that a policy knows: what a view may ask of them
+pub record Viewable (s : List ℕ) : Type 0 where
+  pub parented : Parented s
   pub labels : (j : ℕ) → (decode s j).kind ≡ 1 → (decode s j).label < 64
 
--- a note for each number, and the environment has its own
+-- whole records whose parents are within the count: what a way up asks of them
+pub record Bounded (s : List ℕ) : Type 0 where
+  pub whole : length s % 8 ≡ 0
+  pub parents : (j : ℕ) → parent_of (records s) j ≤ count s
+
+-- such records with a note for each number; the environment has its own
 pub record Passable {A : Type 0} (s : List ℕ) (notes : List (Option A)) : Type 0 where
-  pub parented : Parented s
+  pub bounded : Bounded s
   pub room : count s < length notes
   pub root : get_or notes 0 None ≢ None
 
@@ -45,6 +54,7 @@ pub record Finding {A : Type 0} (v : View A) (s : List ℕ) (j : ℕ) (x : A) : 
 
 -- what is noted is what the view finds
 pub record Noting {A : Type 0} (v : View A) (s : List ℕ) (notes : List (Option A)) : Type 0 where
+  pub viewable : Viewable s
   pub passable : Passable s notes
   pub told : (j : ℕ) (x : A) → j ≤ count s → get_or notes j None ≡ Some x → Finding v s j x
 

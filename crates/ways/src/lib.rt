@@ -7,7 +7,7 @@ ghost use Rattle.model.specs.Climbing.{View};
 ghost use Rattle.model.specs.Records.{count, decode};
 ghost use Rattle.model.specs.Refusals.{pass};
 ghost use Rattle.model.specs.Validity.{validity};
-ghost use Rattle.ways.specs.Ways.{Finding, Leads, Lost, Noted, Noting, Parented, Passable, Starts};
+ghost use Rattle.ways.specs.Ways.{Finding, Leads, Lost, Noted, Noting, Passable, Starts};
 
 // What climbs look for: a view, in code.
 pub trait Finds {
@@ -33,7 +33,6 @@ pub struct Way {
 
 // The start of a way from record i: itself, and its parent above it.
 pub fn start(it: &[u8], i: u16) -> Way
-    requires parented { Parented it.now }
     requires inside { i ≤ count it.now }
     requires some { 1 ≤ i }
     ensures { Starts it.now i result }
@@ -48,20 +47,23 @@ pub fn start(it: &[u8], i: u16) -> Way
 }
 
 // The rest of the way, up to below a number that has its note, or of 32 numbers. (It grows where it lies: a copy for each call
-// of a climb is deeper in the stack.)
+// of a climb is deeper in the stack. The number above is a local meanwhile: as a field it would be written and read again before
+// each next number.)
 pub fn extend<T>(it: &[u8], notes: &[Option<T>], way: &mut Way, i: u16)
     requires passable { Passable it.now notes.now }
     requires starts { Starts it.now i way.old }
     ensures { Leads it.now i way.new }
 {
+    let mut top = way.top;
     for k in 1..32 {
-        if notes[way.top as usize].is_some() {
-            return;
+        if notes[top as usize].is_some() {
+            break;
         }
-        way.numbers[k] = way.top;
-        way.top = records::parent_of(it, way.top);
+        way.numbers[k] = top;
+        top = records::parent_of(it, top);
         way.len = k + 1;
     }
+    way.top = top;
 }
 
 // Notes what is found at the numbers of a way, from the last back to the first, which is i; and answers it for that. (It goes by

@@ -5,14 +5,14 @@ use Rattle.model.specs.Observer.{sheet_of}
 use Rattle.model.specs.Tables.{suspects}
 use Rattle.std.proofs.Common.{◌∙◌, ap}
 use Rattle.ways.specs.Laws.{noting-root}
-use Rattle.ways.specs.Valid.{valid-parented}
+use Rattle.ways.specs.Valid.{valid-viewable}
 use Rattle.observer.specs.Labels.{labels, sheet_by}
 use Rattle.observer.proofs.write_sheet.Goals as goal
 
 pub hide-requires : goal.hide-requires
 hide-requires c = record {
   valid = c.it.invariant;
-  noting = noting-root (hiding (labels c.suspects.result)) (valid-parented _ c.it.invariant);
+  noting = noting-root (hiding (labels c.suspects.result)) (valid-viewable _ c.it.invariant);
   copied = c.copy.ensures;
 }
 

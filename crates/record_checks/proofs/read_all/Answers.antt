@@ -10,15 +10,15 @@ loop-i-init c = (rest-start _ _, order-start _)
 
 pub loop-i-preserved : goal.loop-i-preserved
 loop-i-preserved c = (
-  c.loop-i.invariant.0 ∙ rest-next _ _ _ c.loop-i-test.true (answered-done _ _ _ c.read_record.ensures c.in_ok-r.was),
-  order-next _ _ _ _ c.loop-i.invariant.1 (answered-is _ _ _ c.read_record.ensures c.in_ok-r.was),
+  c.loop-i.invariant.0 ∙ rest-next _ _ _ c.loop-i-test.true (answered-done _ _ _ c.read_record-read.ensures c.in-Ok.is),
+  order-next _ _ _ _ c.loop-i.invariant.1 (answered-is _ _ _ c.read_record-read.ensures c.in-Ok.is),
 )
 
-pub returns-in_err-r-clause-checks : goal.returns-in_err-r-clause-checks
+pub returns-in_default-clause-checks : goal.returns-in_default-clause-checks
 unfolding check_as
-returns-in_err-r-clause-checks c =
-    let e : c.from_residual.result ≡ Err c.in_err-r.field-0.0 = search rules in
-    rw e (sym (c.loop-i.invariant.0 ∙ rest-refuse _ _ _ _ _ c.loop-i-test.true (answered-refused _ _ _ c.read_record.ensures c.in_err-r.was)))
+returns-in_default-clause-checks c =
+    let e : c.map.result ≡ Err c.in_default.field-0 = search rules in
+    rw e (sym (c.loop-i.invariant.0 ∙ rest-refuse _ _ _ _ _ c.loop-i-test.true (answered-refused _ _ _ c.read_record-read.ensures c.in_default.is)))
 
 pub returns-clause-checks : goal.returns-clause-checks
 unfolding check_as

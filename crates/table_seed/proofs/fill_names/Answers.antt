@@ -1,5 +1,5 @@
 -- The goals of `table_seed::fill_names`; the argument stands in Invariants.
-use Rattle.std.proofs.Common.{◌≡◌, ◌*◌, ◌+◌, ◌≤◌, ℕ, List, ◌∙◌, ap, arith, subst, sym}
+use Rattle.std.proofs.Common.{◌≡◌, ◌*◌, ◌+◌, ◌≤◌, ℕ, List, ◌∙◌, ap, arith, length, subst, sym}
 use Rattle.model.specs.Records.{count, decode, records}
 use Rattle.model.specs.Refusals.{pass}
 use Rattle.model.specs.Tables.{bits}
@@ -12,15 +12,15 @@ use Rattle.table_seed.proofs.fill_names.Goals as goal
 use Rattle.table_seed.proofs.fill_names.Goals.{then-is_ambient, else-is_ambient}
 
 pub loop-i-init : goal.loop-i-init
-loop-i-init c = (c.told-table, cells-none (bearing (records c.args.it.now)) (λ (x : ℕ). 8192 + name_cell (records c.args.it.now) x))
+loop-i-init c = (c.requires, cells-none (bearing (records c.args.it.now)) (name_cell (records c.args.it.now)))
 
--- an ambient of a valid itinerary has its bit within the table
+-- an ambient of a valid itinerary has its bit within the part
 pub set_bit-requires : goal.set_bit-requires
 set_bit-requires c =
     let b = c.it.inside.bytes.now in
     let l : c.loop-i.i + 1 ≤ count b = omega (arith, c.count-i-end.ensures, ap count c.it.view_is) in
     let k = bears b c.it.invariant c.loop-i.i l c.record_at-r.result c.record_at-r.ensures (sym c.is_ambient.ensures ∙ c.if-is_ambient.true) in
-    let x = k.label in let y = k.name in omega arith
+    let x = k.label in let y = k.name in omega (arith, c.loop-i.invariant.0)
 
 pub loop-i-preserved : goal.loop-i-preserved
 loop-i-preserved c =
@@ -28,21 +28,20 @@ loop-i-preserved c =
     let v = subst (λ (s : List ℕ). validity s ≡ pass) c.it.view_is c.it.invariant in
     let h : l.i + 1 ≤ count it = omega (arith, c.count-i-end.ensures) in
     let e = c.record_at-r.ensures ∙ ap (λ (s : List ℕ). decode s (l.i + 1)) c.it.view_is in
-    let cell = λ (x : ℕ). 8192 + name_cell (records it) x in
     elim c.if-is_ambient.branch [
       | then-is_ambient w ↦ let k = bears it v l.i h r e (sym c.is_ambient.ensures ∙ w.if-is_ambient.true) in let x = k.label in let y = k.name in (
-        c.if-is_ambient.array_long,
-        cells-yes (bearing (records it)) cell l.i l.table _ (8192 + (64 * r.label + r.name)) k.test (ap (λ (x : ℕ). 8192 + x) k.cell) (omega (arith, l.invariant.0)) (w.table-is ∙ w.set_bit.ensures) l.invariant.1,
+        ap length w.names-is ∙ w.set_bit.auto.table ∙ l.invariant.0,
+        cells-yes (bearing (records it)) (name_cell (records it)) l.i l.names _ (64 * r.label + r.name) k.test k.cell (omega (arith, l.invariant.0)) (w.names-is ∙ w.set_bit.ensures) l.invariant.1,
       )
       | else-is_ambient w ↦ (
-        c.if-is_ambient.array_long,
-        subst (λ (y : List ℕ). CellsSet (bearing (records it)) cell (l.i + 1) (bits c.args.table.now) (bits y)) (sym w.table-is)
-            (cells-no (bearing (records it)) cell l.i (bears-not it v l.i h r e (sym c.is_ambient.ensures ∙ w.if-is_ambient.false)) l.invariant.1),
+        ap length w.names-is ∙ l.invariant.0,
+        subst (λ (y : List ℕ). CellsSet (bearing (records it)) (name_cell (records it)) (l.i + 1) (bits c.args.names.now) (bits y)) (sym w.names-is)
+            (cells-no (bearing (records it)) (name_cell (records it)) l.i (bears-not it v l.i h r e (sym c.is_ambient.ensures ∙ w.if-is_ambient.false)) l.invariant.1),
       )
     ]
 
-pub returns : goal.returns
-returns c =
+pub returns-clause-cells : goal.returns-clause-cells
+returns-clause-cells c =
     let it = records c.args.it.now in
     let e : c.loop-i.i ≡ count c.args.it.now = omega (arith, c.count-i-end.ensures) in
-    subst (λ (k : ℕ). CellsSet (bearing it) (λ (x : ℕ). 8192 + name_cell it x) k (bits c.args.table.now) (bits c.loop-i.table)) e c.loop-i.invariant.1
+    subst (λ (k : ℕ). CellsSet (bearing it) (name_cell it) k (bits c.args.names.now) (bits c.loop-i.names)) e c.loop-i.invariant.1

@@ -1,6 +1,6 @@
 -- The goals of `table_seed::fill_nesting`; the argument stands in Invariants. The labels found are the nearest from each number
 -- on upwards.
-use Rattle.std.proofs.Common.{◌≡◌, ◌*◌, ◌+◌, ◌≤◌, ℕ, List, ◌∙◌, ap, arith, subst, sym}
+use Rattle.std.proofs.Common.{◌≡◌, ◌*◌, ◌+◌, ◌≤◌, ℕ, List, ◌∙◌, ap, arith, length, subst, sym}
 use Rattle.enclosures.specs.Laws.{nearest-read, nearest-there, nearests-are, notes-root}
 use Rattle.enclosures.specs.Notes.{Nearests}
 use Rattle.model.proofs.Laws.Bytes.{valid-few}
@@ -65,11 +65,11 @@ loop-i-preserved c =
           let k = stands it v l.i h r e _ p (sym c.is_nested.ensures ∙ w.if-is_nested.true) in
           let b = within it v l.i h r e _ p in
           let a = w.unwrap-container.result.label in let x = b.label in let y = b.above in (
-            c.if-is_nested.array_long,
+            ap length w.table-is ∙ w.set_bit.auto.table ∙ l.invariant.0,
             cells-yes (standing (records it)) (nesting_cell (records it)) l.i l.table _ (128 * a + r.label) k.test k.cell (omega (arith, l.invariant.0)) (w.table-is ∙ w.set_bit.ensures) l.invariant.1,
           )
       | else-is_nested w ↦ (
-        c.if-is_nested.array_long,
+        ap length w.table-is ∙ l.invariant.0,
         subst (λ (y : List ℕ). CellsSet (standing (records it)) (nesting_cell (records it)) (l.i + 1) (bits c.args.table.now) (bits y)) (sym w.table-is)
             (cells-no (standing (records it)) (nesting_cell (records it)) l.i (stands-not it v l.i h r e (sym c.is_nested.ensures ∙ w.if-is_nested.false)) l.invariant.1),
       )

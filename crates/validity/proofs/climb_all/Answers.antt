@@ -18,7 +18,7 @@ checked : (c : After-need) → check_as c.need.result ≡ climb_check (records c
 unfolding climb_check number_of
 checked c =
     let f = c.find-found.ensures in
-    c.need.ensures ∙ ap (λ b. need b 6 (c.loop-i.i + 1)) (c.is_some.ensures ∙ found-reaches _ f.noted.noting.passable.parented _ (omega (arith, c.requires.counted)) _ (λ x e. found-is f.noted _ (omega (arith, c.requires.counted)) _ f.here e) (rw (← c.requires.counted) f.lost))
+    c.need.ensures ∙ ap (λ b. need b 6 (c.loop-i.i + 1)) (c.is_some.ensures ∙ found-reaches _ f.noted.noting.viewable.parented _ (omega (arith, c.requires.counted)) _ (λ x e. found-is f.noted _ (omega (arith, c.requires.counted)) _ f.here e) (rw (← c.requires.counted) f.lost))
 
 pub returns-in_err-need : goal.returns-in_err-need
 unfolding check_as

@@ -11,7 +11,7 @@ pub returns-then-ordered : goal.returns-then-ordered
 unfolding check_as
 returns-then-ordered c =
     let n = c.requires.counted in
-    rw n (sym (ordered _ c.requires.parented (rw n at (sym c.requires.order ∙ c.if-ordered.true))))
+    rw n (sym (ordered _ c.requires.viewable.parented (rw n at (sym c.requires.order ∙ c.if-ordered.true))))
 
 pub climb_all-requires : goal.climb_all-requires
-climb_all-requires c = record { noting = noting-root arriving c.requires.parented; counted = c.requires.counted }
+climb_all-requires c = record { noting = noting-root arriving c.requires.viewable; counted = c.requires.counted }

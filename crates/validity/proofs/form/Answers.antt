@@ -5,7 +5,7 @@ use Rattle.model.proofs.Laws.Checks.{need-pass, passed, refused-by}
 use Rattle.model.specs.Numbers.{check_as, number_of}
 use Rattle.model.specs.Records.{count}
 use Rattle.model.specs.Validity.{size_right}
-use Rattle.validity.specs.Laws.{form-climb, form-read, parented}
+use Rattle.validity.specs.Laws.{form-climb, form-read, viewable}
 use Rattle.validity.proofs.form.Goals as goal
 use Rattle.validity.proofs.form.Goals.{In_ok-need}
 
@@ -17,9 +17,9 @@ sized c = need-pass _ _ _ (passed _ _ c.need.ensures c.in_ok-need.was)
 pub overflow_cast-n : goal.overflow_cast-n
 overflow_cast-n c = omega (arith, size-le c.args.it.now (sized (goal.at.overflow_cast-n c).In_ok-need))
 
-pub climbs-requires-clause-parented : goal.climbs-requires-clause-parented
+pub climbs-requires-clause-viewable : goal.climbs-requires-clause-viewable
 unfolding count
-climbs-requires-clause-parented c = parented _ (sized (goal.at.climbs-requires-clause-parented c).In_ok-need) (passed _ _ c.read_all.ensures.checks c.in_ok-ordered.was)
+climbs-requires-clause-viewable c = viewable _ (sized (goal.at.climbs-requires-clause-viewable c).In_ok-need) (passed _ _ c.read_all.ensures.checks c.in_ok-ordered.was)
 
 pub climbs-requires-clause-counted : goal.climbs-requires-clause-counted
 unfolding count

@@ -5,4 +5,4 @@ use Rattle.ways.specs.Laws.{Going}
 use Rattle.ways.proofs.extend.Given as goal
 
 abbrev pub invariant-loop-k : goal.invariant-loop-k
-invariant-loop-k g l = Going l.it l.i l.way.numbers l.k l.way.top × (l.way.len ≡ l.k)
+invariant-loop-k g l = Going l.it l.i l.way.numbers l.k l.top × (l.way.len ≡ l.k)

@@ -8,7 +8,7 @@ use Rattle.ways.proofs.find.Goals.{After-parent_of-parent}
 
 -- the parent is within the count, and has room for a note
 parent-in : (g : Over) (c : After-parent_of-parent g) → c.parent_of-parent.result ≤ count c.args.it.now
-parent-in g c = parent-inside c.requires.noting.passable.parented c.args.i _ c.parent_of-parent.ensures
+parent-in g c = parent-inside c.requires.noting.passable.bounded c.args.i _ c.parent_of-parent.ensures
 
 parent-room : (g : Over) (c : After-parent_of-parent g) → c.parent_of-parent.result < length c.args.notes.now
 parent-room g c = omega (arith, parent-in g c, c.requires.noting.passable.room)

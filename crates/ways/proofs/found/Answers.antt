@@ -7,7 +7,7 @@ use Rattle.ways.proofs.found.Goals as goal
 use Rattle.ways.proofs.found.Goals.{After-parent_of-parent}
 
 parent-in : (g : Over) (c : After-parent_of-parent g) → c.parent_of-parent.result ≤ count c.args.it.now
-parent-in g c = parent-inside c.requires.noting.passable.parented c.args.i _ c.parent_of-parent.ensures
+parent-in g c = parent-inside c.requires.noting.passable.bounded c.args.i _ c.parent_of-parent.ensures
 
 pub parent_of-parent-requires-clause-whole : goal.parent_of-parent-requires-clause-whole
 parent_of-parent-requires-clause-whole g c = whole_in _ _ c.requires.inside

@@ -7,7 +7,7 @@ pub make-found-requires : goal.make-found-requires
 make-found-requires g c = record {
   some = back-record c.requires.leads c.loop-k.invariant c.loop-k-test.true;
   whole = whole_in _ _ (back_inside c.requires.leads c.loop-k.invariant c.loop-k-test.true);
-  labelled = c.requires.noting.passable.parented.labels _;
+  labelled = c.requires.noting.viewable.labels _;
 }
 
 pub loop-k-preserved : goal.loop-k-preserved

@@ -7,10 +7,10 @@ pub make-found-requires : goal.make-found-requires
 make-found-requires g c = record {
   some = c.requires.some;
   whole = whole_in _ _ c.requires.inside;
-  labelled = c.requires.noting.passable.parented.labels _;
+  labelled = c.requires.noting.viewable.labels _;
 }
 
 pub returns-clause-noted : goal.returns-clause-noted
 returns-clause-noted g c =
     let n = c.requires.noting in
-    note-more n _ c.requires.inside _ (rw c.make-found.ensures (finding-next _ n.passable.parented _ c.requires.some _ refl _ (parent-read n.passable.parented _ _ refl) c.requires.found))
+    note-more n _ c.requires.inside _ (rw c.make-found.ensures (finding-next _ n.viewable.parented _ c.requires.some _ refl _ (parent-read n.passable.bounded _ _ refl) c.requires.found))
