@@ -45,7 +45,7 @@ pub fn nesting_holds(it: &Itinerary, policy: &Policy, table: &Table) -> bool
     let mut notes = enclosures::notes();
     enclosures::enclose(it, policy, &mut notes);
     for i in 0..it.count() {
-        let r = records::record_at(bytes, i + 1);
+        let r = records::record_in(bytes, i + 1);
         if r.is_nested() {
             if !stands(r, table, notes[r.parent as usize].unwrap().label) {
                 return false;

@@ -47,7 +47,7 @@ pub fn partners_of(it: &Itinerary, w: &Words, partners: &mut Kinds)
     let mut bearers = [0u64; table_words::BITS];
     table_words::transpose(w, 128, 1, &mut bearers);
     for i in 0..it.count() {
-        let r = records::record_at(it.bytes, i + 1);
+        let r = records::record_in(it.bytes, i + 1);
         add_partners(r, &bearers, partners);
     }
 }

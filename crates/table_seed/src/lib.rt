@@ -28,7 +28,7 @@ fn fill_names(it: &Itinerary, names: &mut [u8])
     ensures cells { CellsSet (bearing (records it.now)) (name_cell (records it.now)) (count it.now) (bits names.old) (bits names.new) }
 {
     for i in 0..it.count() {
-        let r = records::record_at(it.bytes, i + 1);
+        let r = records::record_in(it.bytes, i + 1);
         if r.is_ambient() {
             set_bit(names, 64 * (r.label as usize) + (r.name as usize));
         }
@@ -54,7 +54,7 @@ fn fill_nesting(it: &Itinerary, policy: &Policy, table: &mut Table)
     let mut notes = enclosures::notes();
     enclosures::enclose(it, policy, &mut notes);
     for i in 0..it.count() {
-        let r = records::record_at(bytes, i + 1);
+        let r = records::record_in(bytes, i + 1);
         if r.is_nested() {
             let container = notes[r.parent as usize].unwrap().label;
             set_bit(table, 128 * (container as usize) + (r.label as usize));

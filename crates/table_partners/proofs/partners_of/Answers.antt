@@ -1,6 +1,6 @@
 -- The goals of `table_partners::partners_of`; the argument stands in Invariants. H transposed has the bearers of each name, so
 -- what they bear is H.
-use Rattle.std.proofs.Common.{◌≡◌, ℕ, ◌+◌, ◌∙◌, List, ap, subst, sym, arith}
+use Rattle.std.proofs.Common.{◌≡◌, ℕ, ◌+◌, ◌∙◌, List, ap, length, subst, sym, arith}
 use Rattle.model.proofs.Laws.Bytes.{at-decode, length-records, valid-wf}
 use Rattle.model.proofs.Laws.Finite.{replicated}
 use Rattle.model.specs.Records.{count, decode, records}
@@ -13,15 +13,20 @@ use Rattle.table_partners.proofs.partners_of.Goals as goal
 pub loop-i-init : goal.loop-i-init
 loop-i-init c = (c.told-partners, added-start (records c.args.it.now) (borne c.transpose.new.columns) c.args.partners.now)
 
+-- a record within the count is whole
+pub record_in-r-requires-clause-whole : goal.record_in-r-requires-clause-whole
+unfolding count
+record_in-r-requires-clause-whole c = omega (arith, c.count-i-end.ensures, ap length c.it.view_is)
+
 pub add_partners-requires : goal.add_partners-requires
-add_partners-requires c = read-shape c.it.inside.bytes.now (c.loop-i.i + 1) c.record_at-r.result c.it.invariant (omega (arith, c.count-i-end.ensures, ap count c.it.view_is)) c.record_at-r.ensures
+add_partners-requires c = read-shape c.it.inside.bytes.now (c.loop-i.i + 1) c.record_in-r.result c.it.invariant (omega (arith, c.count-i-end.ensures, ap count c.it.view_is)) c.record_in-r.ensures
 
 pub loop-i-preserved : goal.loop-i-preserved
 loop-i-preserved c =
     let l = c.loop-i in let q = c.add_partners in let it = c.args.it.now in
-    let e = c.record_at-r.ensures ∙ ap (λ (s : List ℕ). decode s (l.i + 1)) c.it.view_is in (
+    let e = c.record_in-r.ensures ∙ ap (λ (s : List ℕ). decode s (l.i + 1)) c.it.view_is in (
       q.array_long,
-      added-next (records it) (borne c.transpose.new.columns) l.i c.record_at-r.result (e ∙ sym (at-decode it (l.i + 1) (omega (arith, c.count-i-end.ensures)))) l.invariant.1 q.ensures,
+      added-next (records it) (borne c.transpose.new.columns) l.i c.record_in-r.result (e ∙ sym (at-decode it (l.i + 1) (omega (arith, c.count-i-end.ensures)))) l.invariant.1 q.ensures,
     )
 
 pub returns : goal.returns

@@ -14,20 +14,25 @@ use Rattle.table_seed.proofs.fill_names.Goals.{then-is_ambient, else-is_ambient}
 pub loop-i-init : goal.loop-i-init
 loop-i-init c = (c.requires, cells-none (bearing (records c.args.it.now)) (name_cell (records c.args.it.now)))
 
+-- a record within the count is whole
+pub record_in-r-requires-clause-whole : goal.record_in-r-requires-clause-whole
+unfolding count
+record_in-r-requires-clause-whole c = omega (arith, c.count-i-end.ensures, ap length c.it.view_is)
+
 -- an ambient of a valid itinerary has its bit within the part
 pub set_bit-requires : goal.set_bit-requires
 set_bit-requires c =
     let b = c.it.inside.bytes.now in
     let l : c.loop-i.i + 1 ≤ count b = omega (arith, c.count-i-end.ensures, ap count c.it.view_is) in
-    let k = bears b c.it.invariant c.loop-i.i l c.record_at-r.result c.record_at-r.ensures (sym c.is_ambient.ensures ∙ c.if-is_ambient.true) in
+    let k = bears b c.it.invariant c.loop-i.i l c.record_in-r.result c.record_in-r.ensures (sym c.is_ambient.ensures ∙ c.if-is_ambient.true) in
     let x = k.label in let y = k.name in omega (arith, c.loop-i.invariant.0)
 
 pub loop-i-preserved : goal.loop-i-preserved
 loop-i-preserved c =
-    let it = c.args.it.now in let l = c.loop-i in let r = c.record_at-r.result in
+    let it = c.args.it.now in let l = c.loop-i in let r = c.record_in-r.result in
     let v = subst (λ (s : List ℕ). validity s ≡ pass) c.it.view_is c.it.invariant in
     let h : l.i + 1 ≤ count it = omega (arith, c.count-i-end.ensures) in
-    let e = c.record_at-r.ensures ∙ ap (λ (s : List ℕ). decode s (l.i + 1)) c.it.view_is in
+    let e = c.record_in-r.ensures ∙ ap (λ (s : List ℕ). decode s (l.i + 1)) c.it.view_is in
     elim c.if-is_ambient.branch [
       | then-is_ambient w ↦ let k = bears it v l.i h r e (sym c.is_ambient.ensures ∙ w.if-is_ambient.true) in let x = k.label in let y = k.name in (
         ap length w.names-is ∙ w.set_bit.auto.table ∙ l.invariant.0,

@@ -14,7 +14,7 @@ use Rattle.table_seed.specs.Laws.{cells-no, cells-none, cells-yes}
 use Rattle.table_seed.specs.Seeds.{CellsSet}
 use Rattle.ways.specs.Valid.{parent-near}
 use Rattle.table_seed.proofs.fill_nesting.Goals as goal
-use Rattle.table_seed.proofs.fill_nesting.Goals.{After-enclose, After-it, After-record_at-r, then-is_nested, else-is_nested}
+use Rattle.table_seed.proofs.fill_nesting.Goals.{After-enclose, After-it, After-record_in-r, then-is_nested, else-is_nested}
 
 valid : (c : After-it) → validity c.args.it.now ≡ pass
 valid c = subst (λ (s : List ℕ). validity s ≡ pass) c.it.view_is c.it.invariant
@@ -22,8 +22,8 @@ valid c = subst (λ (s : List ℕ). validity s ≡ pass) c.it.view_is c.it.invar
 near : (c : After-enclose) → validity c.args.it.now ≡ pass → Nearests c.args.it.now c.enclose.new.notes
 near c v = nearests-are c.args.policy.now _ (rw c.notes-notes.ensures (notes-root _ c.args.policy.now v).passable.room) c.enclose.ensures
 
-is : (c : After-record_at-r) → c.record_at-r.result ≡ decode c.args.it.now (c.loop-i.i + 1)
-is c = c.record_at-r.ensures ∙ ap (λ (s : List ℕ). decode s (c.loop-i.i + 1)) c.it.view_is
+is : (c : After-record_in-r) → c.record_in-r.result ≡ decode c.args.it.now (c.loop-i.i + 1)
+is c = c.record_in-r.ensures ∙ ap (λ (s : List ℕ). decode s (c.loop-i.i + 1)) c.it.view_is
 
 pub enclose-requires : goal.enclose-requires
 enclose-requires c = rw c.notes-notes.ensures (notes-root _ c.args.policy.now (valid (goal.at.enclose-requires c).After-it))
@@ -31,33 +31,38 @@ enclose-requires c = rw c.notes-notes.ensures (notes-root _ c.args.policy.now (v
 pub loop-i-init : goal.loop-i-init
 loop-i-init c = (c.told-table, cells-none (standing (records c.args.it.now)) (nesting_cell (records c.args.it.now)))
 
+-- a record within the count is whole
+pub record_in-r-requires-clause-whole : goal.record_in-r-requires-clause-whole
+unfolding count
+record_in-r-requires-clause-whole c = omega (arith, c.count-i-end.ensures, ap length c.it.view_is)
+
 pub bounds-notes-r : goal.bounds-notes-r
 unfolding count
 bounds-notes-r c =
     let b = c.it.inside.bytes.now in
-    let n = parent-near b c.it.invariant _ _ c.record_at-r.ensures in
+    let n = parent-near b c.it.invariant _ _ c.record_in-r.ensures in
     let m = valid-few b c.it.invariant in omega arith
 
 pub unwrap-container-requires : goal.unwrap-container-requires
 unwrap-container-requires c =
     let d = goal.at.unwrap-container-requires c in
     let v = valid d.After-it in
-    nearest-there (near d.After-enclose v) _ (parent-near c.args.it.now v _ _ (is d.After-record_at-r)) _
+    nearest-there (near d.After-enclose v) _ (parent-near c.args.it.now v _ _ (is d.After-record_in-r)) _
 
 pub set_bit-requires : goal.set_bit-requires
 set_bit-requires c =
     let d = goal.at.set_bit-requires c in
-    let v = valid d.After-it in let e = is d.After-record_at-r in
+    let v = valid d.After-it in let e = is d.After-record_in-r in
     let p = nearest-read (near d.After-enclose v) _ (parent-near c.args.it.now v _ _ e) _ c.unwrap-container.ensures in
     let h : c.loop-i.i + 1 ≤ count c.args.it.now = omega (arith, c.count-i-end.ensures) in
-    let k = within c.args.it.now v c.loop-i.i h c.record_at-r.result e _ p in
+    let k = within c.args.it.now v c.loop-i.i h c.record_in-r.result e _ p in
     let x = k.label in let y = k.above in omega arith
 
 pub loop-i-preserved : goal.loop-i-preserved
 loop-i-preserved c =
-    let it = c.args.it.now in let l = c.loop-i in let r = c.record_at-r.result in
+    let it = c.args.it.now in let l = c.loop-i in let r = c.record_in-r.result in
     let d = goal.at.loop-i-preserved c in
-    let v = valid d.After-it in let e = is d.After-record_at-r in
+    let v = valid d.After-it in let e = is d.After-record_in-r in
     let h : l.i + 1 ≤ count it = omega (arith, c.count-i-end.ensures) in
     elim c.if-is_nested.branch [
       | then-is_nested w ↦
