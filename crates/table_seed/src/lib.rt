@@ -21,7 +21,8 @@ fn set_bit(table: &mut [u8], j: usize)
     table[j / 8] |= 1u8 << (j % 8);
 }
 
-// Sets the bits of H that the itinerary asks for, in the names part of the table.
+// Sets the bits of H that the itinerary asks for, in the names part of the table. (`valid` is what the itinerary's type says, for
+// those who only pass it on.)
 fn fill_names(it: &Itinerary, names: &mut [u8])
     requires { length names.old ≡ 512 }
     ensures valid { validity it.now ≡ pass }
